@@ -5,3 +5,5 @@ pub mod Server
 pub mod World
 pub mod History
 pub mod Promises
+pub mod Progress
+pub mod Dropped

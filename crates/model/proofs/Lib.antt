@@ -1,0 +1,5 @@
+pub mod Finds
+pub mod Ways
+pub mod Flow
+pub mod Local
+pub mod Inv
