@@ -125,9 +125,11 @@ take-more all sent may = take-behind sent (may - sent) all
 pub ready-length : (all : List ℕ) (sent may : ℕ) → length (ready all sent may) ≡ min (may - sent) (length all - sent)
 ready-length all sent may = length-take (may - sent) (drop sent all) ∙ ap (λ n. min (may - sent) n) (length-drop sent all)
 
-pub flow-none : Flow [] 0 None false [] [] None
+-- nothing was sent yet
+pub flow-fresh : (all : List ℕ) (end : Option ℕ) (sent : ℕ) (said : Bool) → sent ≡ 0 → said ≡ false → Flow all sent end said [] [] None
 unfolding bytes lasts Ordered
-flow-none = record { kept = refl; within = omega arith; ends = refl; ordered = tt; quiet = λ h. refl; whole = λ h. absurd (true≢false (sym h)) }
+flow-fresh all end sent said e f =
+    record { kept = sym (ap (λ n. take n all) e); within = omega arith; ends = sym (ap (λ b. cond b (listOf end) []) f); ordered = tt; quiet = λ h. refl; whole = λ h. absurd (true≢false (sym h ∙ f)) }
 
 -- how much came and is on the way was sent
 pub flow-count : {all : List ℕ} {sent : ℕ} {end : Option ℕ} {said : Bool} {cells : List Cell} {got : List ℕ} {told : Option ℕ} → Flow all sent end said cells got told → length got + length (bytes cells) ≡ sent
@@ -249,7 +251,7 @@ module _ {all : List ℕ} {sent : ℕ} {end : Option ℕ} {cells : List Cell} {g
   send-within said f = let z = ready-length all sent may in let w = f .within in omega arith
 
   -- the end was not said yet: it is told to nobody, and not on the way
-  unsaid-lasts : Flow all sent end false cells got told → (told ≡ None) × (lasts cells ≡ [])
+  pub unsaid-lasts : Flow all sent end false cells got told → (told ≡ None) × (lasts cells ≡ [])
   unsaid-lasts f = go told (f .ends)
     where
       go : (o : Option ℕ) → listOf o ++ lasts cells ≡ [] → (o ≡ None) × (lasts cells ≡ [])

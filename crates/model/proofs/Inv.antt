@@ -2,7 +2,7 @@
 use mathlib.Core.Bool.{Bool, true, false, cond, _&&_, _||_, not}
 use mathlib.Core.List.{List, [], _∷_, _++_}
 use mathlib.Core.Path.{_≡_}
-use Prim.Native.Nat.{ℕ, zero, suc, _+_}
+use Prim.Native.Nat.{ℕ, zero, suc, _+_, _≤_}
 use Rattle.std.specs.declared.option.Option.{Option}
 use Rattle.std.specs.declared.option.Option.the-variants.{Some, None}
 use Rattle.model.specs.Keyed.{find, numbers, isIn, Rising}
@@ -32,6 +32,7 @@ module _ {S E : Type 0} where
     pub order : numbers numberOf (c .channels) ≡ s .used ++ starts there
     pub used : (t : ℕ) → isIn t (numbers numberAt (s .channels)) ≡ true → isIn t (s .used) ≡ true
     pub local : (t : ℕ) → Local r (c .up) (s .up) (channelAt t c) (channelOf t s) (asks t there) (tells-of t back)
+    pub small : (t : ℕ) → isIn t (numbers numberOf (c .channels)) ≡ true → t ≤ r .last
     -- a side that is up has nothing left that may be sent
     pub idle : c .up ≡ true → (t : ℕ) (x : ClientChannel) → channelAt t c ≡ Some x → requests r x ≡ []
     pub idle-there : s .up ≡ true → (t : ℕ) (f : ServerChannel S) → channelOf t s ≡ Some f → replies r f ≡ []

@@ -3,3 +3,14 @@ pub mod Ways
 pub mod Flow
 pub mod Local
 pub mod Inv
+pub mod AtClient
+pub mod HearsClient
+pub mod AtServer
+pub mod HearsServer
+pub mod InTurn
+pub mod Idle
+pub mod Known
+pub mod ByClient
+pub mod ByServer
+pub mod ByMessage
+pub mod Holds
