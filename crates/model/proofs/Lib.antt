@@ -14,3 +14,16 @@ pub mod ByClient
 pub mod ByServer
 pub mod ByMessage
 pub mod Holds
+pub mod Drain
+pub mod Grows
+pub mod Lists
+pub mod Logins
+pub mod Origin
+pub mod Ran
+pub mod Refused
+pub mod Room
+pub mod Sound
+pub mod Steps
+pub mod Turns
+pub mod Typed
+pub mod Joined

@@ -8,9 +8,9 @@ use lib.Dec.{eqb}
 use lib.ListN.{length}
 use Rattle.std.specs.declared.option.Option.{Option}
 use Rattle.std.specs.declared.option.Option.the-variants.{Some, None}
-use Rattle.model.specs.Messages.{Rules, Does, Reads, Writes, Ends, GoesOn, Programs, isSome}
+use Rattle.model.specs.Messages.{Rules, ToServer, For, Run, Does, Reads, Writes, Ends, GoesOn, Programs, isSome}
 use Rattle.model.specs.Client.{Command, refusal}
-use Rattle.model.specs.Server.{ServerChannel, channelOf, isPart}
+use Rattle.model.specs.Server.{ServerChannel, channelOf, isPart, portion}
 use Rattle.model.specs.World.{World, Event, User, Turn, ArriveThere, ArriveHere, CutHere, CutThere, Connect, Time, canConnect, after}
 
 -- a request that cannot be
@@ -19,6 +19,13 @@ impossible r (Reads k) = isPart r k ≡ false
 impossible r (Writes bs) = isPart r (length bs) ≡ false
 impossible r (Ends n) = 255 < n
 impossible r GoesOn = ⊥
+
+-- a request that waits: a read where nothing is and more may come; a write while the server is up and more is written than may be sent
+abbrev pub idle : {S : Type 0} → Rules → (up : Bool) → ServerChannel S → Does → Type 0
+idle r up x (Reads k) = (isPart r k ≡ true) × (length (portion k x) ≡ 0) × (x .eof ≡ false)
+idle r up x (Writes bs) = (isPart r (length bs) ≡ true) × (up ≡ true) × (x .may < length (x .wrote))
+idle r up x (Ends n) = ⊥
+idle r up x GoesOn = ⊥
 
 abbrev pub foundEof : {S : Type 0} → Option (ServerChannel S) → Bool
 foundEof None = false
@@ -44,13 +51,16 @@ module _ {S E : Type 0} (r : Rules) (p : Programs S E) (e : E) where
 
   -- the channel began to run while that user was accepted, and no new connection came up since
   pub data Began (t u : ℕ) : List Event → Type 0 where
-    now : {vs : List Event} → channelOf t (after r p e vs .server) ≡ None → after r p e vs .server .user ≡ Some u → Began t u (ArriveThere ∷ vs)
+    now : {vs : List Event} (k : ℕ) (ms : List ToServer) → after r p e vs .there ≡ For t (Run k) ∷ ms → channelOf t (after r p e vs .server) ≡ None → after r p e vs .server .user ≡ Some u → Began t u (ArriveThere ∷ vs)
     still : {v : Event} {vs : List Event} → comesUp v (after r p e vs) ≡ false → Began t u vs → Began t u (v ∷ vs)
 
   -- what the program of channel t did, each turn in the environment as that turn found it: its command, what it read, what it wrote, its state, its status
   pub data Ran (t : ℕ) : List Event → (command : ℕ) → (read wrote : List ℕ) → S → Option ℕ → Type 0 where
-    began : {vs : List Event} (k : ℕ) → Ran t (ArriveThere ∷ vs) k [] [] (p .first (after r p e vs .server .env) k) None
-    still : {v : Event} {vs : List Event} {k : ℕ} {rd wr : List ℕ} {s : S} {x : Option ℕ} → Ran t vs k rd wr s x → Ran t (v ∷ vs) k rd wr s x
+    began : {vs : List Event} (k : ℕ) (ms : List ToServer) → after r p e vs .there ≡ For t (Run k) ∷ ms → channelOf t (after r p e vs .server) ≡ None → Ran t (ArriveThere ∷ vs) k [] [] (p .first (after r p e vs .server .env) k) None
+    -- in the same connection; a turn of its own does nothing only if it has ended or waits
+    still : {v : Event} {vs : List Event} {k : ℕ} {rd wr : List ℕ} {s : S} {x : Option ℕ} → comesUp v (after r p e vs) ≡ false →
+        (v ≡ Turn t → (isSome x ≡ true) ⊎ ((c : ServerChannel S) × (channelOf t (after r p e vs .server) ≡ Some c) × idle r (after r p e vs .server .up) c (p .does (after r p e vs .server .env) s))) →
+        Ran t vs k rd wr s x → Ran t (v ∷ vs) k rd wr s x
     -- it is told that no more will come only when it reads, nothing is left, and eof came
     read : {vs : List Event} {k : ℕ} {rd wr : List ℕ} {s : S} (n : ℕ) (bs : List ℕ) → Ran t vs k rd wr s None → p .does (after r p e vs .server .env) s ≡ Reads n → isPart r n ≡ true → length bs ≤ n → (length bs ≡ 0 → foundEof (channelOf t (after r p e vs .server)) ≡ true) →
         Ran t (Turn t ∷ vs) k (rd ++ bs) wr (p .next (after r p e vs .server .env) s bs (eqb (length bs) 0)) None

@@ -1,8 +1,2 @@
-// Both sides of a remote shell as definitions, and what follows from them.
-ghost use mathlib.Core.Path.{_≡_};
-
-pub fn most_channels() -> u8
-    ensures { λ r. ⌜ r ≡ 16 ⌝ }
-{
-    16
-}
+// Both sides of a remote shell as definitions (specs/), and what follows from them: each promise is the contract of a function.
+pub mod promises;
