@@ -27,3 +27,13 @@ pub mod Steps
 pub mod Turns
 pub mod Typed
 pub mod Joined
+pub mod FileLists
+pub mod FileSlots
+pub mod FileKeeps
+pub mod FileSteps
+pub mod FileHistory
+pub mod FileGets
+pub mod FileRuns
+pub mod Shared
+pub mod PutHolds
+pub mod CasesHold

@@ -7,3 +7,9 @@ pub mod History
 pub mod Promises
 pub mod Progress
 pub mod Dropped
+pub mod Files
+pub mod FilePromises
+pub mod Rows
+pub mod Put
+pub mod PutPromises
+pub mod Cases
