@@ -72,7 +72,7 @@ running-phase r x h = (ap (λ b. cond b (flushedRunning x) x) h, ap (λ b. cond 
 -- input goes, and eof behind the last of it
 input-send : {all : List ℕ} {sent : ℕ} {said : Bool} {cells : List Cell} {got : List ℕ} {told : Option ℕ} (part may : ℕ) → 0 < part → (b : Bool) → Flow all sent (eofs b) said cells got told →
     Flow all (sent + length (ready all sent may)) (eofs b) (said || (b && (eqb (sent + length (ready all sent may)) (length all) && not said)))
-      (cells ++ (pieces (parts (length (ready all sent may)) part (ready all sent may)) ++ cond (b && (eqb (sent + length (ready all sent may)) (length all) && not said)) (Last 0 ∷ []) [])) got told
+    (cells ++ (pieces (parts (length (ready all sent may)) part (ready all sent may)) ++ cond (b && (eqb (sent + length (ready all sent may)) (length all) && not said)) (Last 0 ∷ []) [])) got told
 input-send {said = said} part may h true f = flow-send part may h said f
 input-send {said = said} part may h false f = flow-send part may h said f
 
@@ -84,14 +84,14 @@ module _ {S : Type 0} (r : Rules) (fair : Fair r) (sup : Bool) where
         none-back = k .told (told .0);
         told = told .0;
         gone = λ u g. absurd (true≢false (sym g ∙ k .kept u));
-        close = λ u g. hasClose-append us (running r x) ∙ ap (λ b. b || hasClose (running r x)) (k .open-yet) ∙ close-inputs (parts (length (goes x)) (r .part) (goes x)) (eofNow x) (closeNow x) ∙ e
+        close = λ u g. hasClose-append us (running r x) ∙ ap (λ b. b || hasClose (running r x)) (k .open-yet) ∙ close-inputs (parts (length (goes x)) (r .part) (goes x)) (eofNow x) (closeNow x) ∙ e;
       }
   flush-pair x f us ds h k false e =
       record {
         answered = k .answered;
         told = k .told;
         open-yet = hasClose-append us (running r x) ∙ ap (λ b. b || hasClose (running r x)) (k .open-yet) ∙ close-inputs (parts (length (goes x)) (r .part) (goes x)) (eofNow x) (closeNow x) ∙ e;
-        kept = k .kept
+        kept = k .kept;
       }
 
   flush-running : (x : ClientChannel) (f : ServerChannel S) (us : List Request) (ds : List Reply) → x .phase ≡ Running → Pair r true sup x f us ds → Pair r true sup (flushedRunning x) f (us ++ running r x) ds
@@ -110,21 +110,21 @@ module _ {S : Type 0} (r : Rules) (fair : Fair r) (sup : Bool) where
         inWindow = record { within = w .within; exact = w .exact; sent = let s = w .sent in omega arith; taken = w .taken };
         outWindow = subst (λ (n : ℕ). Window (r .window) (f .sent) (f .may) n (length (x .got)) (x .taken) true) (sym cu) (h .outWindow);
         begun = begun-append us (running r x) (k .open-yet) (h .begun) (begun-inputs ps (eofNow x) (closeNow x));
-        phase = subst (λ (p : Phase). InPhase (cond (closeNow x) Closed p) sup (flushedRunning x) f (us ++ running r x) ds) (sym ph) (flush-pair x f us ds h k (closeNow x) refl)
+        phase = subst (λ (p : Phase). InPhase (cond (closeNow x) Closed p) sup (flushedRunning x) f (us ++ running r x) ds) (sym ph) (flush-pair x f us ds h k (closeNow x) refl);
       }
 
   -- a channel that is not running is as it was
   flush-still : (x : ClientChannel) (sx : Option (ServerChannel S)) (us : List Request) (ds : List Reply) → runs (x .phase) ≡ false → Local r true sup (Some x) sx us ds → Local r true sup (Some (flushed x)) sx (us ++ requests r x) ds
   flush-still x sx us ds e h =
       subst (λ (y : ClientChannel). Local r true sup (Some y) sx (us ++ requests r x) ds) (sym (idle-phase r x e .0))
-        (subst (λ (l : List Request). Local r true sup (Some x) sx l ds) (sym (ap (λ l. us ++ l) (idle-phase r x e .1) ∙ append-nil us)) h)
+      (subst (λ (l : List Request). Local r true sup (Some x) sx l ds) (sym (ap (λ l. us ++ l) (idle-phase r x e .1) ∙ append-nil us)) h)
 
   flush-moves : (x : ClientChannel) (sx : Option (ServerChannel S)) (us : List Request) (ds : List Reply) → x .phase ≡ Running → Local r true sup (Some x) sx us ds → Local r true sup (Some (flushed x)) sx (us ++ requests r x) ds
   flush-moves x None us ds e h = absurd (subst (λ (p : Phase). AloneIn p x us ds) e (h .1))
   flush-moves x (Some f) us ds e h =
       let q = running-phase r x (ap runs e) in
       subst (λ (y : ClientChannel). Pair r true sup y f (us ++ requests r x) ds) (sym (q .0))
-        (subst (λ (l : List Request). Pair r true sup (flushedRunning x) f (us ++ l) ds) (sym (q .1)) (flush-running x f us ds e h))
+      (subst (λ (l : List Request). Pair r true sup (flushedRunning x) f (us ++ l) ds) (sym (q .1)) (flush-running x f us ds e h))
 
   flush-some : (x : ClientChannel) (sx : Option (ServerChannel S)) (us : List Request) (ds : List Reply) (p : Phase) → x .phase ≡ p → Local r true sup (Some x) sx us ds → Local r true sup (Some (flushed x)) sx (us ++ requests r x) ds
   flush-some x sx us ds Asked e h = flush-still x sx us ds (ap runs e) h
@@ -237,7 +237,7 @@ module _ {S : Type 0} (r : Rules) (cup sup : Bool) where
         outWindow = record { within = let v = w .within in omega arith; exact = λ u. let v = w .exact u in let c = credit-all cup n u in omega arith; sent = w .sent; taken = let v = w .taken in omega arith };
         begun = begun-append us (creditOf cup n) (k .open-yet) (h .begun) (credit-begun cup n);
         phase = subst (λ (p : Phase). InPhase p sup (tookMore n x) f (us ++ creditOf cup n) ds) (sym ph)
-          (record { answered = k .answered; told = k .told; open-yet = hasClose-append us (creditOf cup n) ∙ ap (λ b. b || hasClose (creditOf cup n)) (k .open-yet) ∙ credit-close cup n; kept = k .kept })
+            (record { answered = k .answered; told = k .told; open-yet = hasClose-append us (creditOf cup n) ∙ ap (λ b. b || hasClose (creditOf cup n)) (k .open-yet) ∙ credit-close cup n; kept = k .kept });
       }
 
   pub take-local : (n : ℕ) (x : ClientChannel) (sx : Option (ServerChannel S)) (us : List Request) (ds : List Reply) → isHeld x ≡ true → n ≤ length (x .got) - x .taken → Local r cup sup (Some x) sx us ds → Local r cup sup (Some (tookMore n x)) sx (us ++ creditOf cup n) ds

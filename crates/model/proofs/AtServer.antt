@@ -100,14 +100,14 @@ module _ {S : Type 0} (r : Rules) (fair : Fair r) (cup : Bool) (x : ClientChanne
         rest = k .rest ++ keeps r f;
         answer = ap (λ l. l ++ keeps r f) (k .answer);
         answered = answered-more (k .rest) (sym (ap cellsOut (k .answer))) (h .output) (k .answered) (f .said) refl;
-        kept = k .kept
+        kept = k .kept;
       }
   flushed-phase Running h k =
       record {
         answered = answered-more ds refl (h .output) (k .answered) (f .said) refl;
         told = λ t. ap (λ l. l ++ keeps r f) (k .told t) ∙ told-none (h .output) t;
         open-yet = k .open-yet;
-        kept = k .kept
+        kept = k .kept;
       }
   flushed-phase Refused h k = k
   flushed-phase Closed h k = record { none-back = ap (λ l. l ++ keeps r f) (k .none-back) ∙ told-none (h .output) (k .told); told = k .told; gone = k .gone; close = k .close }
@@ -125,11 +125,11 @@ module _ {S : Type 0} (r : Rules) (fair : Fair r) (cup : Bool) (x : ClientChanne
         command = h .command;
         input = h .input;
         output = subst (λ (b : Bool). Flow (f .wrote) (f .sent + length (goesBack f)) (f .exit) b (cellsOut (ds ++ keeps r f)) (x .got) (x .exit)) sd
-          (subst (λ (cs : List Cell). Flow (f .wrote) (f .sent + length (goesBack f)) (f .exit) (f .said || lastNow (f .wrote) (f .sent) (f .exit) (f .said) (f .may)) cs (x .got) (x .exit)) (sym (cellsOut-append ds (keeps r f) ∙ ap (λ l. cellsOut ds ++ l) (cells-outputs ps (exitNow f) (f .exit)))) (flow-send (r .part) (f .may) (fair .part) (f .said) (h .output)));
+            (subst (λ (cs : List Cell). Flow (f .wrote) (f .sent + length (goesBack f)) (f .exit) (f .said || lastNow (f .wrote) (f .sent) (f .exit) (f .said) (f .may)) cs (x .got) (x .exit)) (sym (cellsOut-append ds (keeps r f) ∙ ap (λ l. cellsOut ds ++ l) (cells-outputs ps (exitNow f) (f .exit)))) (flow-send (r .part) (f .may) (fair .part) (f .said) (h .output)));
         inWindow = subst (λ (n : ℕ). Window (r .window) (x .sent) (x .may) n (length (f .input)) (f .read) true) (sym cu) (h .inWindow);
         outWindow = record { within = w .within; exact = w .exact; sent = let s = w .sent in omega arith; taken = w .taken };
         begun = h .begun;
-        phase = flushed-phase (x .phase) h (h .phase)
+        phase = flushed-phase (x .phase) h (h .phase);
       }
 
   flush-one : (b : Bool) → f .forgotten ≡ b → Pair r cup true x f us ds → Pair r cup true x (sentBack f) us (ds ++ replies r f)

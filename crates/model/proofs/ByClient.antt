@@ -68,7 +68,7 @@ module _ {S E : Type 0} (r : Rules) (fair : Fair r) (c : Client) (s : Server S E
         order = h .order ∙ ap (λ l. s .used ++ l) (sym (starts-append there (Login u q ∷ []) ∙ append-nil (starts there)));
         used = h .used;
         small = h .small;
-        local = λ t. subst (λ (l : List Request). Local r (c .up) (s .up) (channelAt t c) (channelOf t s) l (tells-of t back)) (sym (asks-append t there (Login u q ∷ []) ∙ append-nil (asks t there))) (h .local t)
+        local = λ t. subst (λ (l : List Request). Local r (c .up) (s .up) (channelAt t c) (channelOf t s) l (tells-of t back)) (sym (asks-append t there (Login u q ∷ []) ∙ append-nil (asks t there))) (h .local t);
       }
 
   -- a start
@@ -86,7 +86,7 @@ module _ {S E : Type 0} (r : Rules) (fair : Fair r) (c : Client) (s : Server S E
         used = h .used;
         small = λ n q. small-new t k (ltb-false (r .last) t (parts .1)) n (or-cases (isIn n (numbers numberOf (c .channels))) (isIn n (t ∷ [])) (sym (in-append n (numbers numberOf (c .channels)) (t ∷ [])) ∙ sym (ap (isIn n) nums) ∙ q));
         local = λ n. subst (λ (o : Option ClientChannel). Local r (c .up) (s .up) o (channelOf n s) (asks n (there ++ (For t (Run k) ∷ []))) (tells-of n back)) (sym (find-append numberOf n (c .channels) (newChannel t k) nin))
-          (subst (λ (l : List Request). Local r (c .up) (s .up) (cond (eqb t n) (Some (newChannel t k)) (channelAt n c)) (channelOf n s) l (tells-of n back)) (sym (asks-append n there (For t (Run k) ∷ []) ∙ ap (λ l. asks n there ++ l) (asks-for n t (Run k)))) (start-at t k nin n (eqb t n) refl))
+            (subst (λ (l : List Request). Local r (c .up) (s .up) (cond (eqb t n) (Some (newChannel t k)) (channelAt n c)) (channelOf n s) l (tells-of n back)) (sym (asks-append n there (For t (Run k) ∷ []) ∙ ap (λ l. asks n there ++ l) (asks-for n t (Run k)))) (start-at t k nin n (eqb t n) refl));
       }
     where
       small-new : (t k : ℕ) → t ≤ r .last → (n : ℕ) → mathlib.Core.Logic._⊎_ (isIn n (numbers numberOf (c .channels)) ≡ true) (isIn n (t ∷ []) ≡ true) → n ≤ r .last
@@ -172,7 +172,7 @@ module _ {S E : Type 0} (r : Rules) (fair : Fair r) (c : Client) (s : Server S E
         order = h .order;
         used = h .used;
         small = h .small;
-        local = λ t. subst (λ (l : List Reply). Local r (c .up) (s .up) (channelAt t c) (channelOf t s) (asks t there) l) (e t) (h .local t)
+        local = λ t. subst (λ (l : List Reply). Local r (c .up) (s .up) (channelAt t c) (channelOf t s) (asks t there) l) (e t) (h .local t);
       })
 
   -- a reply of channel t is its first on the way
@@ -193,10 +193,10 @@ module _ {S E : Type 0} (r : Rules) (fair : Fair r) (c : Client) (s : Server S E
       let n : y .0 .number ≡ t = y .2 ∙ find-key numberOf t (c .channels) x fx in
       let own = subst (λ (b : Bool). Local r b (s .up) (Some (y .0)) (channelOf t s) (asks t there) (tells-of t ms)) (sym up) (y .3) in
       let k = client-changes r (c .channels) (c .up) (s .channels) (s .used) (s .up) there there (Of t m ∷ ms) ms t (λ _. y .0) (λ z e. n) refl (λ k e. (refl, other-first t k m e))
-        (subst (λ (o : Option ClientChannel). Local r (c .up) (s .up) (mapped (λ _. y .0) o) (channelOf t s) (asks t there) (tells-of t ms)) (sym fx) own) (parts-of r c s there (Of t m ∷ ms) h) in
+      (subst (λ (o : Option ClientChannel). Local r (c .up) (s .up) (mapped (λ _. y .0) o) (channelOf t s) (asks t there) (tells-of t ms)) (sym fx) own) (parts-of r c s there (Of t m ∷ ms) h) in
       let k2 = subst (λ (l : List ToServer). Known r (change numberOf t (λ _. y .0) (c .channels)) (c .up) (s .channels) (s .used) (s .up) l ms) (sym (append-nil there)) k in
       subst (λ (z : Result ClientChannel Rattle.model.specs.Messages.Fault). InvOf r (flush r (did (heard t z c) []) .side) s (there ++ flush r (did (heard t z c) []) .sends) ms) (sym (y .1))
-        (client-flush r fair (withChannels (change numberOf t (λ _. y .0) (c .channels)) c) [] s there ms k2 (h .idle-there))
+      (client-flush r fair (withChannels (change numberOf t (λ _. y .0) (c .channels)) c) [] s there ms k2 (h .idle-there))
 
   hears-of : (t : ℕ) (m : Reply) → InvOf r c s there (Of t m ∷ ms) → InvOf r (takeIn r (Of t m) c .side) s (there ++ takeIn r (Of t m) c .sends) ms
   hears-of t m h = go (channelAt t c) refl
@@ -224,5 +224,5 @@ module _ {S E : Type 0} (r : Rules) (c : Client) (s : Server S E) (there : List 
         small = h .small;
         local = λ t. cut-here r (c .up) (s .up) (channelAt t c) (channelOf t s) (asks t there) (tells-of t back) (h .local t);
         idle = λ u. absurd (true≢false (sym u));
-        idle-there = h .idle-there
+        idle-there = h .idle-there;
       }

@@ -25,7 +25,6 @@ use Rattle.model.proofs.Inv.{starts, InvOf}
 use Rattle.model.proofs.HearsServer.{pass-local, only-start, runs-local, refused-local}
 use Rattle.model.proofs.InTurn.{turn-local, creditBack, cut-there}
 use Rattle.model.proofs.Known.{Known, IdleThere, IdleHere, whole, parts-of, server-flush, server-changes}
-
 use Rattle.model.proofs.HearsClient.{not-nil}
 
 above-from : (t : ℕ) (xs : List ℕ) → ((n : ℕ) → isIn n xs ≡ true → n < t) → above t xs ≡ true
@@ -53,16 +52,16 @@ module _ {S E : Type 0} (r : Rules) (fair : Fair r) (p : Programs S E) (c : Clie
   none-of m d ns ea es en ec eu up′ ep which h =
       server-flush r fair c d ns ms back
       (subst (λ (l : List (ServerChannel S)). Known r (c .channels) (c .up) l (d .used) (d .up) ms (back ++ ns)) (sym ec)
-        (subst (λ (l : List ℕ). Known r (c .channels) (c .up) (s .channels) l (d .up) ms (back ++ ns)) (sym eu)
-          (record {
-            rising = h .rising;
-            rising-there = h .rising-there;
-            order = h .order ∙ ap (λ l. s .used ++ l) es;
-            used = h .used;
-            small = h .small;
-            local = λ t. subst (λ (l : List Reply). Local r (c .up) (d .up) (channelAt t c) (channelOf t s) (asks t ms) l) (sym (tells-append t back ns ∙ ap (λ l. tells-of t back ++ l) (en t) ∙ append-nil (tells-of t back)))
-              (subst (λ (l : List Request). Local r (c .up) (d .up) (channelAt t c) (channelOf t s) l (tells-of t back)) (ea t) (subst (λ (b : Bool). Local r (c .up) b (channelAt t c) (channelOf t s) (asks t (m ∷ ms)) (tells-of t back)) (sym ep) (still which t)))
-          }))) (h .idle)
+      (subst (λ (l : List ℕ). Known r (c .channels) (c .up) (s .channels) l (d .up) ms (back ++ ns)) (sym eu)
+      (record {
+        rising = h .rising;
+        rising-there = h .rising-there;
+        order = h .order ∙ ap (λ l. s .used ++ l) es;
+        used = h .used;
+        small = h .small;
+        local = λ t. subst (λ (l : List Reply). Local r (c .up) (d .up) (channelAt t c) (channelOf t s) (asks t ms) l) (sym (tells-append t back ns ∙ ap (λ l. tells-of t back ++ l) (en t) ∙ append-nil (tells-of t back)))
+            (subst (λ (l : List Request). Local r (c .up) (d .up) (channelAt t c) (channelOf t s) l (tells-of t back)) (ea t) (subst (λ (b : Bool). Local r (c .up) b (channelAt t c) (channelOf t s) (asks t (m ∷ ms)) (tells-of t back)) (sym ep) (still which t)));
+      }))) (h .idle)
     where
       still : (up′ ≡ true) ⊎ (up′ ≡ false) → (t : ℕ) → Local r (c .up) up′ (channelAt t c) (channelOf t s) (asks t (m ∷ ms)) (tells-of t back)
       still (inl e) t = subst (λ (b : Bool). Local r (c .up) b (channelAt t c) (channelOf t s) (asks t (m ∷ ms)) (tells-of t back)) (up ∙ sym e) (h .local t)
@@ -114,9 +113,9 @@ module _ {S E : Type 0} (r : Rules) (fair : Fair r) (p : Programs S E) (c : Clie
           let own0 : Local r (c .up) true (channelAt t c) (Some (y .0)) (asks t ms) (tells-of t back) = subst (λ (o : Option ClientChannel). Local r (c .up) true o (Some (y .0)) (asks t ms) (tells-of t back)) (sym e) (y .3) in
           let own = subst (λ (b : Bool). Local r (c .up) b (channelAt t c) (Some (y .0)) (asks t ms) (tells-of t back)) (sym up) own0 in
           let k = server-changes r (c .channels) (c .up) (s .channels) (s .used) (s .up) (For t m ∷ ms) ms back back t (λ _. y .0) (λ z q. n) (sym es) (λ k q. (other-first t k m q, refl))
-            (subst (λ (o : Option (ServerChannel S)). Local r (c .up) (s .up) (channelAt t c) (mapped (λ _. y .0) o) (asks t ms) (tells-of t back)) (sym ff) own) (parts-of r c s (For t m ∷ ms) back h) in
+          (subst (λ (o : Option (ServerChannel S)). Local r (c .up) (s .up) (channelAt t c) (mapped (λ _. y .0) o) (asks t ms) (tells-of t back)) (sym ff) own) (parts-of r c s (For t m ∷ ms) back h) in
           subst (λ (z : Result (ServerChannel S) Fault). Goes (flushBack r (did (passed t z s) []))) (sym (y .1))
-            (server-flush r fair c (withAll (change numberAt t (λ _. y .0) (s .channels)) s) [] ms back (subst (λ (l : List ToClient). Known r (c .channels) (c .up) (change numberAt t (λ _. y .0) (s .channels)) (s .used) (s .up) ms l) (sym (append-nil back)) k) (h .idle))
+          (server-flush r fair c (withAll (change numberAt t (λ _. y .0) (s .channels)) s) [] ms back (subst (λ (l : List ToClient). Known r (c .channels) (c .up) (change numberAt t (λ _. y .0) (s .channels)) (s .used) (s .up) ms l) (sym (append-nil back)) k) (h .idle))
 
   no-start : (m : Request) → ((k : ℕ) → m ≡ Run k → ⊥) → (cx : Option ClientChannel) (us : List Request) (ds : List Reply) → Local {S = S} r (c .up) true cx None (m ∷ us) ds → ⊥
   no-start m nr cx us ds l = let o = only-start S r (c .up) m cx us ds l in nr (o .0 .command) (o .2)
@@ -196,11 +195,11 @@ module _ {S E : Type 0} (r : Rules) (fair : Fair r) (p : Programs S E) (c : Clie
           used = λ n q. used-after n (inl q);
           small = h .small;
           local = λ n. by-test t n (λ (m : ℕ). Local r (c .up) (s .up) (channelAt m c) (channelOf m s) (asks m ms) (tells-of m (back ++ (Of t (Runs false) ∷ []))))
-            (subst (λ (l : List Reply). Local r (c .up) (s .up) (channelAt t c) (channelOf t s) (asks t ms) l) (sym (tells-append t back (Of t (Runs false) ∷ []) ∙ ap (λ l. tells-of t back ++ l) told))
+              (subst (λ (l : List Reply). Local r (c .up) (s .up) (channelAt t c) (channelOf t s) (asks t ms) l) (sym (tells-append t back (Of t (Runs false) ∷ []) ∙ ap (λ l. tells-of t back ++ l) told))
               (subst (λ (b : Bool). Local r (c .up) b (channelAt t c) (channelOf t s) (asks t ms) (tells-of t back ++ (Runs false ∷ []))) (sym up)
-                (subst (λ (o : Option (ServerChannel S)). Local r (c .up) true (channelAt t c) o (asks t ms) (tells-of t back ++ (Runs false ∷ []))) (sym unknown)
-                  (subst (λ (o : Option ClientChannel). Local {S = S} r (c .up) true o None (asks t ms) (tells-of t back ++ (Runs false ∷ []))) (sym (a .1)) (refused-local S r (c .up) k (a .0) (asks t ms) (tells-of t back) (a .3) (a .4) (a .5) (a .6))))))
-            (λ e. others-stay n (Of t (Runs false) ∷ []) e (ap (λ b. cond b (Runs false ∷ []) []) e))
+              (subst (λ (o : Option (ServerChannel S)). Local r (c .up) true (channelAt t c) o (asks t ms) (tells-of t back ++ (Runs false ∷ []))) (sym unknown)
+              (subst (λ (o : Option ClientChannel). Local {S = S} r (c .up) true o None (asks t ms) (tells-of t back ++ (Runs false ∷ []))) (sym (a .1)) (refused-local S r (c .up) k (a .0) (asks t ms) (tells-of t back) (a .3) (a .4) (a .5) (a .6))))))
+              (λ e. others-stay n (Of t (Runs false) ∷ []) e (ap (λ b. cond b (Runs false ∷ []) []) e));
         }
 
     module _ (u : ℕ) where
@@ -237,7 +236,7 @@ module _ {S E : Type 0} (r : Rules) (fair : Fair r) (p : Programs S E) (c : Clie
             order = order-after;
             used = λ n q. used-after n (or-cases (isIn n (numbers numberAt (s .channels))) (isIn n (t ∷ [])) (sym (in-append n (numbers numberAt (s .channels)) (t ∷ [])) ∙ sym (ap (isIn n) nums) ∙ q));
             small = h .small;
-            local = λ n. subst (λ (o : Option (ServerChannel S)). Local r (c .up) (s .up) (channelAt n c) o (asks n ms) (tells-of n (back ++ answer))) (sym (find-append numberAt n (s .channels) new nin)) (runs-at n)
+            local = λ n. subst (λ (o : Option (ServerChannel S)). Local r (c .up) (s .up) (channelAt n c) o (asks n ms) (tells-of n (back ++ answer))) (sym (find-append numberAt n (s .channels) new nin)) (runs-at n);
           }
 
     starts-ok : (b : Bool) → Goes (flushBack r (cond b

@@ -71,15 +71,15 @@ module _ {S E : Type 0} (r : Rules) (fair : Fair r) (p : Programs S E) (c : Clie
   unchanged d ms ec eu ep none h =
       subst (λ (l : List (ServerChannel S)). Known r (c .channels) (c .up) l (d .used) (d .up) there (back ++ ms)) (sym ec)
       (subst (λ (l : List ℕ). Known r (c .channels) (c .up) (s .channels) l (d .up) there (back ++ ms)) (sym eu)
-        (subst (λ (b : Bool). Known r (c .channels) (c .up) (s .channels) (s .used) b there (back ++ ms)) (sym ep)
-          (record {
-            rising = h .rising;
-            rising-there = h .rising-there;
-            order = h .order;
-            used = h .used;
-            small = h .small;
-            local = λ t. subst (λ (l : List Reply). Local r (c .up) (s .up) (channelAt t c) (channelOf t s) (asks t there) l) (sym (tells-append t back ms ∙ ap (λ l. tells-of t back ++ l) (none t) ∙ append-nil (tells-of t back))) (h .local t)
-          })))
+      (subst (λ (b : Bool). Known r (c .channels) (c .up) (s .channels) (s .used) b there (back ++ ms)) (sym ep)
+      (record {
+        rising = h .rising;
+        rising-there = h .rising-there;
+        order = h .order;
+        used = h .used;
+        small = h .small;
+        local = λ t. subst (λ (l : List Reply). Local r (c .up) (s .up) (channelAt t c) (channelOf t s) (asks t there) l) (sym (tells-append t back ms ∙ ap (λ l. tells-of t back ++ l) (none t) ∙ append-nil (tells-of t back))) (h .local t);
+      })))
 
   -- the server goes down
   down : Known r (c .channels) (c .up) (s .channels) (s .used) (s .up) there back → Known r (c .channels) (c .up) (s .channels) (s .used) false there (back ++ [])
@@ -103,10 +103,10 @@ module _ {S E : Type 0} (r : Rules) (fair : Fair r) (p : Programs S E) (c : Clie
       let n : y .channel .number ≡ t = turn-number r p (s .env) f (s .up) ∙ find-key numberAt t (s .channels) f ff in
       let l1 = subst (λ (o : Option (ServerChannel S)). Local r (c .up) (s .up) (channelAt t c) o (asks t there) (tells-of t back)) ff (h .local t) in
       let k = server-changes r (c .channels) (c .up) (s .channels) (s .used) (s .up) there there back (back ++ ms) t (λ _. y .channel) (λ z e. n) refl
-        (λ k e. (refl, tells-append k back ms ∙ ap (λ l. tells-of k back ++ l) (freed-other (s .up) t (y .freed) k e) ∙ append-nil (tells-of k back)))
-        (subst (λ (o : Option (ServerChannel S)). Local r (c .up) (s .up) (channelAt t c) (mapped (λ _. y .channel) o) (asks t there) (tells-of t (back ++ ms))) (sym ff)
-          (subst (λ (l : List Reply). Local r (c .up) (s .up) (channelAt t c) (Some (y .channel)) (asks t there) l) (sym (tells-append t back ms ∙ ap (λ l. tells-of t back ++ l) (freed-own (s .up) t (y .freed)))) (here t f (live-exit (f .forgotten) (f .exit) live) (channelAt t c) l1)))
-        (parts-of r c s there back h) in
+      (λ k e. (refl, tells-append k back ms ∙ ap (λ l. tells-of k back ++ l) (freed-other (s .up) t (y .freed) k e) ∙ append-nil (tells-of k back)))
+      (subst (λ (o : Option (ServerChannel S)). Local r (c .up) (s .up) (channelAt t c) (mapped (λ _. y .channel) o) (asks t there) (tells-of t (back ++ ms))) (sym ff)
+      (subst (λ (l : List Reply). Local r (c .up) (s .up) (channelAt t c) (Some (y .channel)) (asks t there) l) (sym (tells-append t back ms ∙ ap (λ l. tells-of t back ++ l) (freed-own (s .up) t (y .freed)))) (here t f (live-exit (f .forgotten) (f .exit) live) (channelAt t c) l1)))
+      (parts-of r c s there back h) in
       server-flush r fair c (server (change numberAt t (λ _. y .channel) (s .channels)) (s .used) (s .user) (s .tries) (y .env) (s .up)) ms there back k (h .idle)
     where
       here : (t : ℕ) (f : ServerChannel S) → f .exit ≡ None → (cx : Option ClientChannel) → Local r (c .up) (s .up) cx (Some f) (asks t there) (tells-of t back) → Local r (c .up) (s .up) cx (Some (turnIn r p (s .up) (s .env) f .channel)) (asks t there) (tells-of t back ++ creditBack (s .up) (turnIn r p (s .up) (s .env) f .freed))

@@ -12,6 +12,7 @@ use Rattle.std.specs.declared.option.Option.{Option}
 use Rattle.std.specs.declared.option.Option.the-variants.{Some, None}
 use Rattle.model.specs.Keyed.{find, isIn, gather}
 use Rattle.model.specs.Messages.{isSome}
+use Rattle.model.proofs.Finds.{find-key}
 use Rattle.model.specs.Files.{same, isNamed, keep, upFrom, without, write}
 
 pub none-some : {A : Type 0} {x : A} → None ≡ Some x → ⊥
@@ -53,13 +54,7 @@ module _ {X : Type 0} (key : X → ℕ) where
       go false q = (q, sym (find-without-other t u xs q) ∙ e)
 
   pub found-number : (t : ℕ) (xs : List X) (x : X) → find key t xs ≡ Some x → key x ≡ t
-  unfolding find
-  found-number t [] x e = absurd (none-some e)
-  found-number t (y ∷ ys) x e = go (eqb (key y) t) refl e (found-number t ys x)
-    where
-      go : (b : Bool) → eqb (key y) t ≡ b → cond b (Some y) (find key t ys) ≡ Some x → (find key t ys ≡ Some x → key x ≡ t) → key x ≡ t
-      go true q e ih = ap key (sym (some-inj e)) ∙ eqb-true (key y) t q
-      go false q e ih = ih e
+  found-number t xs x e = find-key key t xs x e
 
 pub in-left : (b : ℕ) (xs ys : List ℕ) → isIn b xs ≡ true → isIn b (xs ++ ys) ≡ true
 unfolding isIn

@@ -152,7 +152,7 @@ flow-grow {all} {sent} {said} bs f =
       ends = f .ends;
       ordered = f .ordered;
       quiet = f .quiet;
-      whole = λ h. absurd (true≢false (sym h ∙ flow-unsaid f))
+      whole = λ h. absurd (true≢false (sym h ∙ flow-unsaid f));
     }
 
 pub flow-end : {all : List ℕ} {sent : ℕ} {said : Bool} {cells : List Cell} {got : List ℕ} {told : Option ℕ} (n : ℕ) → Flow all sent None said cells got told → Flow all sent (Some n) said cells got told
@@ -163,7 +163,7 @@ flow-end {all} {sent} {said} n f =
       ends = f .ends ∙ ap (λ b. cond b [] []) (flow-unsaid f) ∙ sym (ap (λ b. cond b (n ∷ []) []) (flow-unsaid f));
       ordered = f .ordered;
       quiet = f .quiet;
-      whole = λ h. absurd (true≢false (sym h ∙ flow-unsaid f))
+      whole = λ h. absurd (true≢false (sym h ∙ flow-unsaid f));
     }
 
 pub flow-piece : {all : List ℕ} {sent : ℕ} {end : Option ℕ} {said : Bool} {cells : List Cell} {got : List ℕ} {told : Option ℕ} (bs : List ℕ) → Flow all sent end said (Piece bs ∷ cells) got told → Flow all sent end said cells (got ++ bs) told
@@ -175,7 +175,7 @@ flow-piece {all} {sent} {end} {said} {cells} {got} {told} bs f =
       ends = f .ends;
       ordered = f .ordered;
       quiet = λ h. absurd (let e = f .quiet h in let z : _≡_ {A = ℕ} 0 1 = cc in omega arith);
-      whole = f .whole
+      whole = f .whole;
     }
 
 -- nothing comes behind the end
@@ -195,7 +195,7 @@ flow-last {all} {sent} {end} {said} {cells} {got} {told} n f =
       ends = ap (λ o. listOf o ++ (n ∷ lasts cells)) (sym (flow-open f)) ∙ f .ends;
       ordered = let e = f .ordered in subst (λ (l : List Cell). Ordered l) (sym e) tt;
       quiet = λ h. f .ordered;
-      whole = f .whole
+      whole = f .whole;
     }
 
 -- whether the end goes now, with all that was there
@@ -263,19 +263,19 @@ module _ {all : List ℕ} {sent : ℕ} {end : Option ℕ} {cells : List Cell} {g
       let e = f .whole refl .0 in
       let z : sent ≡ sent + length (ready all sent may) = let y = ap length (ready-none all sent may e) in omega arith in
       subst (λ (cs : List Cell). Flow all (sent + length (ready all sent may)) end true cs got told) (sym (ap (λ l. cells ++ l) (goesOut-said part all sent end may e) ∙ append-nil cells))
-        (subst (λ (n : ℕ). Flow all n end true cells got told) z f)
+      (subst (λ (n : ℕ). Flow all n end true cells got told) z f)
   flow-send false f =
       record {
         kept = send-kept false f;
         within = send-within false f;
         ends = let g = ready all sent may in let b = lastNow all sent end false may in
-          ap (λ o. listOf o ++ lasts (cells ++ goesOut part all sent end false may)) (unsaid-lasts f .0) ∙ lasts-append cells (goesOut part all sent end false may)
-          ∙ ap (λ l. l ++ lasts (goesOut part all sent end false may)) (unsaid-lasts f .1) ∙ lasts-append (pieces (parts (length g) part g)) (cond b (lastOf end) [])
-          ∙ ap (λ l. l ++ lasts (cond b (lastOf end) [])) (lasts-pieces (parts (length g) part g)) ∙ lasts-cond b end;
+            ap (λ o. listOf o ++ lasts (cells ++ goesOut part all sent end false may)) (unsaid-lasts f .0) ∙ lasts-append cells (goesOut part all sent end false may)
+            ∙ ap (λ l. l ++ lasts (goesOut part all sent end false may)) (unsaid-lasts f .1) ∙ lasts-append (pieces (parts (length g) part g)) (cond b (lastOf end) [])
+            ∙ ap (λ l. l ++ lasts (cond b (lastOf end) [])) (lasts-pieces (parts (length g) part g)) ∙ lasts-cond b end;
         ordered = ordered-append cells (goesOut part all sent end false may) (unsaid-lasts f .1) (ordered-pieces (parts (length (ready all sent may)) part (ready all sent may)) (cond (lastNow all sent end false may) (lastOf end) []) (ordered-last (lastNow all sent end false may) end));
         quiet = λ h. absurd (true≢false (sym h ∙ ap isSome (unsaid-lasts f .0)));
         whole = λ h. let a = and-parts (isSome end) (eqb (sent + length (ready all sent may)) (length all) && true) h in
-          (eqb-true (sent + length (ready all sent may)) (length all) (and-parts (eqb (sent + length (ready all sent may)) (length all)) true (a .1) .0), a .0)
+            (eqb-true (sent + length (ready all sent may)) (length all) (and-parts (eqb (sent + length (ready all sent may)) (length all)) true (a .1) .0), a .0);
       }
 
 -- What came is a prefix, and the end is told only when that was all.

@@ -54,14 +54,17 @@ module _ {S : Type 0} (r : Rules) (sup : Bool) where
         inWindow = h .inWindow;
         outWindow = h .outWindow;
         begun = h .begun;
-        phase = record { answered = a; told = λ t. absurd (true≢false (sym t ∙ ap isSome (fr .exit))); open-yet = ap hasClose e; kept = k }
+        phase = record { answered = a; told = λ t. absurd (true≢false (sym t ∙ ap isSome (fr .exit))); open-yet = ap hasClose e; kept = k };
       }
 
   hear-asked : (m : Reply) (x : ClientChannel) (f : ServerChannel S) (us : List Request) (ds : List Reply) → x .phase ≡ Asked → AskedOk sup x f us (m ∷ ds) → Pair r true sup x f us (m ∷ ds) → Heard r sup m x (Some f) us ds
   hear-asked m x f us ds ph k h =
-      let q = head-is m (Runs true) ds (k .rest) (k .answer) in
-      (answered true x, ap (λ p. hearIn r p m x) ph ∙ ap (λ a. hearAsked a x) (q .0), refl,
-      hear-runs x f us ds (subst (λ (n : Reply). Pair r true sup x f us (n ∷ ds)) (q .0) h) (k .fresh) (k .none-there) (subst (λ (l : List Reply). Answered l) (sym (q .1)) (k .answered)) (k .kept))
+      let q = head-is m (Runs true) ds (k .rest) (k .answer) in (
+        answered true x,
+        ap (λ p. hearIn r p m x) ph ∙ ap (λ a. hearAsked a x) (q .0),
+        refl,
+        hear-runs x f us ds (subst (λ (n : Reply). Pair r true sup x f us (n ∷ ds)) (q .0) h) (k .fresh) (k .none-there) (subst (λ (l : List Reply). Answered l) (sym (q .1)) (k .answered)) (k .kept),
+      )
 
 module _ {S : Type 0} (r : Rules) (fair : Fair r) (sup : Bool) (x : ClientChannel) (f : ServerChannel S) (us : List Request) (ds : List Reply) (ph : x .phase ≡ Running) where
   -- the exit is not known yet
@@ -76,20 +79,21 @@ module _ {S : Type 0} (r : Rules) (fair : Fair r) (sup : Bool) (x : ClientChanne
       let w2 = w .sent in
       let w3 = w .taken in
       let fits : length (x .got) + length bs ≤ x .taken + r .window = omega arith in
-      let g = length-append (x .got) bs in
-      (gotMore bs x,
-      ap (λ p. hearIn r p (Output bs) x) ph ∙ ap (λ e. cond (isSome e) (Err OutOfTurn) (cond (ltb (x .taken + r .window) (length (x .got) + length bs)) (Err BeyondWindow) (Ok (gotMore bs x)))) o
-        ∙ ap (λ b. cond b (Err BeyondWindow) (Ok (gotMore bs x))) (le-ltb (x .taken + r .window) (length (x .got) + length bs) fits),
-      refl,
-      record {
-        command = h .command;
-        input = h .input;
-        output = flow-piece bs (h .output);
-        inWindow = h .inWindow;
-        outWindow = record { within = w .within; exact = w .exact; sent = w .sent; taken = omega arith };
-        begun = h .begun;
-        phase = subst (λ (p : Phase). InPhase p sup (gotMore bs x) f us ds) (sym ph) (record { answered = k .answered; told = λ t. absurd (not-nil (Output bs) ds (k .told t)); open-yet = k .open-yet; kept = k .kept })
-      })
+      let g = length-append (x .got) bs in (
+        gotMore bs x,
+        ap (λ p. hearIn r p (Output bs) x) ph ∙ ap (λ e. cond (isSome e) (Err OutOfTurn) (cond (ltb (x .taken + r .window) (length (x .got) + length bs)) (Err BeyondWindow) (Ok (gotMore bs x)))) o
+            ∙ ap (λ b. cond b (Err BeyondWindow) (Ok (gotMore bs x))) (le-ltb (x .taken + r .window) (length (x .got) + length bs) fits),
+        refl,
+        record {
+          command = h .command;
+          input = h .input;
+          output = flow-piece bs (h .output);
+          inWindow = h .inWindow;
+          outWindow = record { within = w .within; exact = w .exact; sent = w .sent; taken = omega arith };
+          begun = h .begun;
+          phase = subst (λ (p : Phase). InPhase p sup (gotMore bs x) f us ds) (sym ph) (record { answered = k .answered; told = λ t. absurd (not-nil (Output bs) ds (k .told t)); open-yet = k .open-yet; kept = k .kept });
+        },
+      )
 
   hear-credit : (n : ℕ) → Pair r true sup x f us (InputCredit n ∷ ds) → RunningOk sup x f us (InputCredit n ∷ ds) → Heard r sup (InputCredit n) x (Some f) us ds
   unfolding cellsOut creditsBack Answered
@@ -100,36 +104,38 @@ module _ {S : Type 0} (r : Rules) (fair : Fair r) (sup : Bool) (x : ClientChanne
       let w3 = w .taken in
       let c = flow-count (h .input) in
       let fc = fair .counts in
-      let fits : x .may - x .sent + n ≤ r .counts = omega arith in
-      (mayMore n x,
-      ap (λ p. hearIn r p (InputCredit n) x) ph ∙ ap (λ b. cond b (Err Uncountable) (Ok (mayMore n x))) (le-ltb (r .counts) (x .may - x .sent + n) fits),
-      refl,
-      record {
-        command = h .command;
-        input = h .input;
-        output = h .output;
-        inWindow = record { within = omega arith; exact = λ u. let v = w .exact u in omega arith; sent = omega arith; taken = w .taken };
-        outWindow = h .outWindow;
-        begun = h .begun;
-        phase = subst (λ (p : Phase). InPhase p sup (mayMore n x) f us ds) (sym ph) (record { answered = k .answered; told = λ t. absurd (not-nil (InputCredit n) ds (k .told t)); open-yet = k .open-yet; kept = k .kept })
-      })
+      let fits : x .may - x .sent + n ≤ r .counts = omega arith in (
+        mayMore n x,
+        ap (λ p. hearIn r p (InputCredit n) x) ph ∙ ap (λ b. cond b (Err Uncountable) (Ok (mayMore n x))) (le-ltb (r .counts) (x .may - x .sent + n) fits),
+        refl,
+        record {
+          command = h .command;
+          input = h .input;
+          output = h .output;
+          inWindow = record { within = omega arith; exact = λ u. let v = w .exact u in omega arith; sent = omega arith; taken = w .taken };
+          outWindow = h .outWindow;
+          begun = h .begun;
+          phase = subst (λ (p : Phase). InPhase p sup (mayMore n x) f us ds) (sym ph) (record { answered = k .answered; told = λ t. absurd (not-nil (InputCredit n) ds (k .told t)); open-yet = k .open-yet; kept = k .kept });
+        },
+      )
 
   hear-exit : (n : ℕ) → Pair r true sup x f us (Exit n ∷ ds) → RunningOk sup x f us (Exit n ∷ ds) → Heard r sup (Exit n) x (Some f) us ds
   unfolding cellsOut creditsBack Answered
   hear-exit n h k =
-      let o = flow-open (h .output) in
-      (toldExit n x,
-      ap (λ p. hearIn r p (Exit n) x) ph ∙ ap (λ e. cond (isSome e) (Err OutOfTurn) (Ok (toldExit n x))) o,
-      refl,
-      record {
-        command = h .command;
-        input = h .input;
-        output = flow-last n (h .output);
-        inWindow = h .inWindow;
-        outWindow = h .outWindow;
-        begun = h .begun;
-        phase = subst (λ (p : Phase). InPhase p sup (toldExit n x) f us ds) (sym ph) (record { answered = subst (λ (l : List Reply). Answered l) (sym (k .answered)) tt; told = λ t. k .answered; open-yet = k .open-yet; kept = k .kept })
-      })
+      let o = flow-open (h .output) in (
+        toldExit n x,
+        ap (λ p. hearIn r p (Exit n) x) ph ∙ ap (λ e. cond (isSome e) (Err OutOfTurn) (Ok (toldExit n x))) o,
+        refl,
+        record {
+          command = h .command;
+          input = h .input;
+          output = flow-last n (h .output);
+          inWindow = h .inWindow;
+          outWindow = h .outWindow;
+          begun = h .begun;
+          phase = subst (λ (p : Phase). InPhase p sup (toldExit n x) f us ds) (sym ph) (record { answered = subst (λ (l : List Reply). Answered l) (sym (k .answered)) tt; told = λ t. k .answered; open-yet = k .open-yet; kept = k .kept });
+        },
+      )
 
   hear-running : (m : Reply) → Pair r true sup x f us (m ∷ ds) → RunningOk sup x f us (m ∷ ds) → Heard r sup m x (Some f) us ds
   unfolding Answered

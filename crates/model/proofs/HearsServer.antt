@@ -65,20 +65,21 @@ module _ {S : Type 0} (r : Rules) (fair : Fair r) (cup : Bool) (x : ClientChanne
       let w2 = w .sent in
       let w3 = w .taken in
       let fits : length (f .input) + length bs ≤ f .read + r .window = omega arith in
-      let g = length-append (f .input) bs in
-      (cameIn bs f,
-      kept-hears (Input bs) ∙ ap (λ b. cond b (Err OutOfTurn) (cond (ltb (f .read + r .window) (length (f .input) + length bs)) (Err BeyondWindow) (Ok (cameIn bs f)))) o
-        ∙ ap (λ b. cond b (Err BeyondWindow) (Ok (cameIn bs f))) (le-ltb (f .read + r .window) (length (f .input) + length bs) fits),
-      refl,
-      record {
-        command = h .command;
-        input = flow-piece bs (h .input);
-        output = h .output;
-        inWindow = record { within = w .within; exact = w .exact; sent = w .sent; taken = omega arith };
-        outWindow = h .outWindow;
-        begun = h .begun;
-        phase = next-phase x f us ds (Input bs) (cameIn bs f) refl refl h0 (x .phase) (h .phase)
-      })
+      let g = length-append (f .input) bs in (
+        cameIn bs f,
+        kept-hears (Input bs) ∙ ap (λ b. cond b (Err OutOfTurn) (cond (ltb (f .read + r .window) (length (f .input) + length bs)) (Err BeyondWindow) (Ok (cameIn bs f)))) o
+            ∙ ap (λ b. cond b (Err BeyondWindow) (Ok (cameIn bs f))) (le-ltb (f .read + r .window) (length (f .input) + length bs) fits),
+        refl,
+        record {
+          command = h .command;
+          input = flow-piece bs (h .input);
+          output = h .output;
+          inWindow = record { within = w .within; exact = w .exact; sent = w .sent; taken = omega arith };
+          outWindow = h .outWindow;
+          begun = h .begun;
+          phase = next-phase x f us ds (Input bs) (cameIn bs f) refl refl h0 (x .phase) (h .phase);
+        },
+      )
 
   pass-credit : (n : ℕ) → Pair r cup true x f (OutputCredit n ∷ us) ds → Passed r cup (OutputCredit n) x f us ds
   unfolding cellsIn creditsUp Begun hasClose
@@ -89,35 +90,37 @@ module _ {S : Type 0} (r : Rules) (fair : Fair r) (cup : Bool) (x : ClientChanne
       let w3 = w .taken in
       let c = flow-count (h .output) in
       let fc = fair .counts in
-      let fits : f .may - f .sent + n ≤ r .counts = omega arith in
-      (maySend n f,
-      kept-hears (OutputCredit n) ∙ ap (λ b. cond b (Err Uncountable) (Ok (maySend n f))) (le-ltb (r .counts) (f .may - f .sent + n) fits),
-      refl,
-      record {
-        command = h .command;
-        input = h .input;
-        output = h .output;
-        inWindow = h .inWindow;
-        outWindow = record { within = omega arith; exact = λ u. let v = w .exact u in omega arith; sent = omega arith; taken = w .taken };
-        begun = h .begun;
-        phase = next-phase x f us ds (OutputCredit n) (maySend n f) refl refl h0 (x .phase) (h .phase)
-      })
+      let fits : f .may - f .sent + n ≤ r .counts = omega arith in (
+        maySend n f,
+        kept-hears (OutputCredit n) ∙ ap (λ b. cond b (Err Uncountable) (Ok (maySend n f))) (le-ltb (r .counts) (f .may - f .sent + n) fits),
+        refl,
+        record {
+          command = h .command;
+          input = h .input;
+          output = h .output;
+          inWindow = h .inWindow;
+          outWindow = record { within = omega arith; exact = λ u. let v = w .exact u in omega arith; sent = omega arith; taken = w .taken };
+          begun = h .begun;
+          phase = next-phase x f us ds (OutputCredit n) (maySend n f) refl refl h0 (x .phase) (h .phase);
+        },
+      )
 
   pass-eof : Pair r cup true x f (Eof ∷ us) ds → Passed r cup Eof x f us ds
   unfolding cellsIn creditsUp Begun hasClose
-  pass-eof h =
-      (noMore f,
-      kept-hears Eof ∙ ap (λ b. cond b (Err OutOfTurn) (Ok (noMore f))) (eof-not (f .eof) (flow-open (h .input))),
-      refl,
-      record {
-        command = h .command;
-        input = flow-last 0 (h .input);
-        output = h .output;
-        inWindow = h .inWindow;
-        outWindow = h .outWindow;
-        begun = h .begun;
-        phase = next-phase x f us ds Eof (noMore f) refl refl h0 (x .phase) (h .phase)
-      })
+  pass-eof h = (
+    noMore f,
+    kept-hears Eof ∙ ap (λ b. cond b (Err OutOfTurn) (Ok (noMore f))) (eof-not (f .eof) (flow-open (h .input))),
+    refl,
+    record {
+      command = h .command;
+      input = flow-last 0 (h .input);
+      output = h .output;
+      inWindow = h .inWindow;
+      outWindow = h .outWindow;
+      begun = h .begun;
+      phase = next-phase x f us ds Eof (noMore f) refl refl h0 (x .phase) (h .phase);
+    },
+  )
 
   closed-phase : (p : Phase) → InPhase p true x f (Close ∷ us) ds → us ≡ [] → InPhase p true x (forgot f) us ds × (isSome (x .exit) ≡ true)
   unfolding hasClose
@@ -134,19 +137,20 @@ module _ {S : Type 0} (r : Rules) (fair : Fair r) (cup : Bool) (x : ClientChanne
   unfolding cellsIn creditsUp Begun
   pass-close h =
       let k = closed-phase (x .phase) (h .phase) (h .begun) in
-      let s = said-by (x .exit) (k .1) (h .output) in
-      (forgot f,
-      kept-hears Close ∙ ap (λ b. cond b (Ok (forgot f)) (Err OutOfTurn)) s,
-      refl,
-      record {
-        command = h .command;
-        input = h .input;
-        output = h .output;
-        inWindow = h .inWindow;
-        outWindow = h .outWindow;
-        begun = subst (λ (l : List Request). Begun l) (sym (h .begun)) tt;
-        phase = k .0
-      })
+      let s = said-by (x .exit) (k .1) (h .output) in (
+        forgot f,
+        kept-hears Close ∙ ap (λ b. cond b (Ok (forgot f)) (Err OutOfTurn)) s,
+        refl,
+        record {
+          command = h .command;
+          input = h .input;
+          output = h .output;
+          inWindow = h .inWindow;
+          outWindow = h .outWindow;
+          begun = subst (λ (l : List Request). Begun l) (sym (h .begun)) tt;
+          phase = k .0;
+        },
+      )
 
   pass-any : (m : Request) → Pair r cup true x f (m ∷ us) ds → Passed r cup m x f us ds
   unfolding Begun
@@ -167,15 +171,15 @@ module _ {S : Type 0} (r : Rules) (fair : Fair r) (cup : Bool) where
   runs-local p t k u e x us ds eu ed fr ph ek =
       subst (λ (l : List Request). Pair r cup true x (newProgram r p t k u e) l (ds ++ (Runs true ∷ (InputCredit (r .window) ∷ [])))) (sym eu)
       (subst (λ (l : List Reply). Pair r cup true x (newProgram r p t k u e) [] (l ++ (Runs true ∷ (InputCredit (r .window) ∷ [])))) (sym ed)
-        (record {
-          command = sym ek;
-          input = flow-fresh (x .input) (eofs (x .eof)) (x .sent) (x .said) (fr .sent) (fr .said);
-          output = subst (λ (g : List ℕ). Flow [] 0 None false [] g (x .exit)) (sym (fr .got)) (subst (λ (o : Option ℕ). Flow [] 0 None false [] [] o) (sym (fr .exit)) (flow-fresh [] None 0 false refl refl));
-          inWindow = record { within = let a = fr .may in omega arith; exact = λ w. let a = fr .may in omega arith; sent = let a = fr .may in let b = fr .sent in omega arith; taken = omega arith };
-          outWindow = record { within = let a = fr .taken in omega arith; exact = λ w. let a = fr .taken in omega arith; sent = omega arith; taken = let a = fr .taken in omega arith };
-          begun = tt;
-          phase = subst (λ (q : Phase). InPhase q true x (newProgram r p t k u e) [] (Runs true ∷ (InputCredit (r .window) ∷ []))) (sym ph) (record { fresh = fr; none-there = refl; rest = InputCredit (r .window) ∷ []; answer = refl; answered = tt; kept = λ w. refl })
-        }))
+      (record {
+        command = sym ek;
+        input = flow-fresh (x .input) (eofs (x .eof)) (x .sent) (x .said) (fr .sent) (fr .said);
+        output = subst (λ (g : List ℕ). Flow [] 0 None false [] g (x .exit)) (sym (fr .got)) (subst (λ (o : Option ℕ). Flow [] 0 None false [] [] o) (sym (fr .exit)) (flow-fresh [] None 0 false refl refl));
+        inWindow = record { within = let a = fr .may in omega arith; exact = λ w. let a = fr .may in omega arith; sent = let a = fr .may in let b = fr .sent in omega arith; taken = omega arith };
+        outWindow = record { within = let a = fr .taken in omega arith; exact = λ w. let a = fr .taken in omega arith; sent = omega arith; taken = let a = fr .taken in omega arith };
+        begun = tt;
+        phase = subst (λ (q : Phase). InPhase q true x (newProgram r p t k u e) [] (Runs true ∷ (InputCredit (r .window) ∷ []))) (sym ph) (record { fresh = fr; none-there = refl; rest = InputCredit (r .window) ∷ []; answer = refl; answered = tt; kept = λ w. refl });
+      }))
 
 module _ (S : Type 0) (r : Rules) (cup : Bool) where
   -- of a channel that the server does not know, only a start is on the way

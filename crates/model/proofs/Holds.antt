@@ -38,7 +38,7 @@ module _ {S E : Type 0} (r : Rules) where
         local = λ t. (refl, refl);
         small = λ t q. absurd (true≢false (sym q));
         idle = λ u t x q. absurd (let z : _≡_ {A = ℕ} 0 1 = cc in omega arith);
-        idle-there = λ u t x q. absurd (let z : _≡_ {A = ℕ} 0 1 = cc in omega arith)
+        idle-there = λ u t x q. absurd (let z : _≡_ {A = ℕ} 0 1 = cc in omega arith);
       }
 
 module _ {S E : Type 0} (r : Rules) (fair : Fair r) (p : Programs S E) (w : World S E) (h : Inv r w) where
@@ -106,7 +106,7 @@ module _ {S E : Type 0} (r : Rules) (fair : Fair r) (p : Programs S E) (e : E) w
         record {
           rest = bytes (cellsIn (asks (x .number) (after r p e vs .there))) ++ drop (x .sent) (x .input);
           prefix = flow-prefix (h .input);
-          eof = λ q. eof-of (x .eof) (f .eof) q (h .input)
+          eof = λ q. eof-of (x .eof) (f .eof) q (h .input);
         }
       where
         eof-of : (a b : Bool) → b ≡ true → Flow (x .input) (x .sent) (eofs a) (x .said) (cellsIn (asks (x .number) (after r p e vs .there))) (f .input) (eofs b) → (a ≡ true) × (bytes (cellsIn (asks (x .number) (after r p e vs .there))) ++ drop (x .sent) (x .input) ≡ [])
@@ -119,7 +119,7 @@ module _ {S E : Type 0} (r : Rules) (fair : Fair r) (p : Programs S E) (e : E) w
         record {
           rest = bytes (cellsOut (tells-of (x .number) (after r p e vs .back))) ++ drop (f .sent) (f .wrote);
           prefix = flow-prefix (h .output);
-          exit = λ n q. flow-told n (subst (λ (o : Option ℕ). Flow (f .wrote) (f .sent) (f .exit) (f .said) (cellsOut (tells-of (x .number) (after r p e vs .back))) (x .got) o) q (h .output))
+          exit = λ n q. flow-told n (subst (λ (o : Option ℕ). Flow (f .wrote) (f .sent) (f .exit) (f .said) (cellsOut (tells-of (x .number) (after r p e vs .back))) (x .got) o) q (h .output));
         }
 
     windows : (x : ClientChannel) (f : ServerChannel S) → Pair r (after r p e vs .client .up) (after r p e vs .server .up) x f (asks (x .number) (after r p e vs .there)) (tells-of (x .number) (after r p e vs .back)) → InWindow r x f

@@ -82,7 +82,7 @@ module _ {S : Type 0} (r : Rules) (fair : Fair r) (cup sup : Bool) (x : ClientCh
         rest = k .rest ++ creditBack sup n;
         answer = ap (λ l. l ++ creditBack sup n) (k .answer);
         answered = answered-append (k .rest) (creditBack sup n) (ap (λ l. lasts (cellsOut l)) (sym (k .answer)) ∙ no-end h) (k .answered) (credit-answered sup n);
-        kept = k .kept
+        kept = k .kept;
       }
   read-phase Running n s h k =
       record { answered = answered-append ds (creditBack sup n) (no-end h) (k .answered) (credit-answered sup n); told = λ t. absurd (untold h t); open-yet = k .open-yet; kept = k .kept }
@@ -101,7 +101,7 @@ module _ {S : Type 0} (r : Rules) (fair : Fair r) (cup sup : Bool) (x : ClientCh
         inWindow = record { within = let v = w .within in omega arith; exact = λ u. let v = w .exact u in let c = credit-all sup n u in omega arith; sent = w .sent; taken = let v = w .taken in omega arith };
         outWindow = h .outWindow;
         begun = h .begun;
-        phase = read-phase (x .phase) n s h (h .phase)
+        phase = read-phase (x .phase) n s h (h .phase);
       }
 
   pair-wrote : (bs : List ℕ) (s : S) → Pair r cup sup x f us ds → Pair r cup sup x (wroteMore bs s f) us ds
@@ -113,7 +113,7 @@ module _ {S : Type 0} (r : Rules) (fair : Fair r) (cup sup : Bool) (x : ClientCh
         inWindow = h .inWindow;
         outWindow = h .outWindow;
         begun = h .begun;
-        phase = same-phase sup x f us ds (x .phase) (wroteMore bs s f) refl (h .phase)
+        phase = same-phase sup x f us ds (x .phase) (wroteMore bs s f) refl (h .phase);
       }
 
   pair-ended : (n : ℕ) → Pair r cup sup x f us ds → Pair r cup sup x (ended n f) us ds
@@ -125,7 +125,7 @@ module _ {S : Type 0} (r : Rules) (fair : Fair r) (cup sup : Bool) (x : ClientCh
         inWindow = h .inWindow;
         outWindow = h .outWindow;
         begun = h .begun;
-        phase = same-phase sup x f us ds (x .phase) (ended n f) refl (h .phase)
+        phase = same-phase sup x f us ds (x .phase) (ended n f) refl (h .phase);
       }
 
   still-there : Pair r cup sup x f us ds → Pair r cup sup x f us (ds ++ [])

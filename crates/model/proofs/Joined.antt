@@ -1,6 +1,7 @@
 -- The promises that join what is known of single channels with what is known of histories. Assumes nothing.
 use mathlib.Core.List.{List}
-use Rattle.model.specs.Messages.{Rules, Fair, Programs}
+use native.Mathlib.Omega.{arith}
+use Rattle.model.specs.Messages.{RealIsFair}
 use Rattle.model.specs.Promises.{StartedByWhoMay, RunsOnce, WindowsHold}
 use Rattle.model.proofs.Grows.{numbers-grow}
 use Rattle.model.proofs.Holds.{inv, partner, windows-of-both}
@@ -17,3 +18,6 @@ module _ {S E : Type 0} where
 
   pub windows-hold : WindowsHold S E
   windows-hold r fair p e vs = (windows-of-both r fair p e vs, λ x m. input-waits r p e vs x m, λ f m u. output-waits r p e vs f m u)
+
+pub real-is-fair : RealIsFair
+real-is-fair accepts may = record { window = omega arith; part = omega arith; drain = omega arith; counts = omega arith }

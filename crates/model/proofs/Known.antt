@@ -99,8 +99,8 @@ module _ {S : Type 0} (r : Rules) (fair : Fair r) where
         used = h .used;
         small = λ t q. h .small t (sym (ap (isIn t) (numbers-each numberOf flushed key-flushed cs)) ∙ q);
         local = λ t. let own = own-gather numberOf asks asks-append asks-nil (requestsOf r) (requests r) (λ k x. asks-labelled k (x .number) (requests r x)) t cs (h .rising) in
-          subst (λ (o : Option ClientChannel). Local r true sup o (find numberAt t fs) (asks t (there ++ gather (requestsOf r) cs)) (tells-of t back)) (sym (find-each numberOf flushed key-flushed t cs))
-          (subst (λ (l : List Request). Local r true sup (mapped flushed (find numberOf t cs)) (find numberAt t fs) l (tells-of t back)) (sym (asks-append t there (gather (requestsOf r) cs) ∙ ap (λ l. asks t there ++ l) own)) (flush-local r fair sup (find numberOf t cs) (find numberAt t fs) (asks t there) (tells-of t back) (h .local t)))
+            subst (λ (o : Option ClientChannel). Local r true sup o (find numberAt t fs) (asks t (there ++ gather (requestsOf r) cs)) (tells-of t back)) (sym (find-each numberOf flushed key-flushed t cs))
+            (subst (λ (l : List Request). Local r true sup (mapped flushed (find numberOf t cs)) (find numberAt t fs) l (tells-of t back)) (sym (asks-append t there (gather (requestsOf r) cs) ∙ ap (λ l. asks t there ++ l) own)) (flush-local r fair sup (find numberOf t cs) (find numberAt t fs) (asks t there) (tells-of t back) (h .local t)));
       }
 
 abbrev pub IdleThere : {S : Type 0} → Rules → List (ServerChannel S) → Bool → Type 0
@@ -127,7 +127,7 @@ module _ {S E : Type 0} (r : Rules) (fair : Fair r) where
           let k2 = subst (λ (l : List ToServer). Known r (each flushed (c .channels)) true (s .channels) (s .used) (s .up) l back) (append-assoc there ms (gather (requestsOf r) (c .channels))) k in
           let k3 = subst (λ (b : Bool). Known r (each flushed (c .channels)) b (s .channels) (s .used) (s .up) (there ++ (ms ++ gather (requestsOf r) (c .channels))) back) (sym e) k2 in
           whole r (client (each flushed (c .channels)) (c .accepted) (c .up)) s (there ++ (ms ++ gather (requestsOf r) (c .channels))) back k3
-            (λ u t y q. let z = mapped-is flushed (find numberOf t (c .channels)) y (sym (find-each numberOf flushed key-flushed t (c .channels)) ∙ q) in ap (requests r) (z .2) ∙ idle-flushed r (z .0)) j
+          (λ u t y q. let z = mapped-is flushed (find numberOf t (c .channels)) y (sym (find-each numberOf flushed key-flushed t (c .channels)) ∙ q) in ap (requests r) (z .2) ∙ idle-flushed r (z .0)) j
       go false e = whole r c s (there ++ ms) back h (λ u. absurd (true≢false (sym u ∙ e))) j
 
 -- The server's flush, and its forgetting.
@@ -141,8 +141,8 @@ module _ {S : Type 0} (r : Rules) (fair : Fair r) where
         used = λ t q. h .used t (sym (ap (isIn t) (numbers-each numberAt sentBack key-sent fs)) ∙ q);
         small = h .small;
         local = λ t. let own = own-gather numberAt tells-of tells-append tells-nil (repliesOf r) (replies r) (λ k x. tells-returned k (x .number) (replies r x)) t fs (h .rising-there) in
-          subst (λ (o : Option (ServerChannel S)). Local r cup true (find numberOf t cs) o (asks t there) (tells-of t (back ++ gather (repliesOf r) fs))) (sym (find-each numberAt sentBack key-sent t fs))
-          (subst (λ (l : List Reply). Local r cup true (find numberOf t cs) (mapped sentBack (find numberAt t fs)) (asks t there) l) (sym (tells-append t back (gather (repliesOf r) fs) ∙ ap (λ l. tells-of t back ++ l) own)) (flush-back-local r fair cup (find numberOf t cs) (find numberAt t fs) (asks t there) (tells-of t back) (h .local t)))
+            subst (λ (o : Option (ServerChannel S)). Local r cup true (find numberOf t cs) o (asks t there) (tells-of t (back ++ gather (repliesOf r) fs))) (sym (find-each numberAt sentBack key-sent t fs))
+            (subst (λ (l : List Reply). Local r cup true (find numberOf t cs) (mapped sentBack (find numberAt t fs)) (asks t there) l) (sym (tells-append t back (gather (repliesOf r) fs) ∙ ap (λ l. tells-of t back ++ l) own)) (flush-back-local r fair cup (find numberOf t cs) (find numberAt t fs) (asks t there) (tells-of t back) (h .local t)));
       }
 
   server-forgets : (cs : List ClientChannel) (cup : Bool) (fs : List (ServerChannel S)) (came : List ℕ) (there : List ToServer) (back : List ToClient) → Known r cs cup fs came false there back → Known r cs cup (each forgot fs) came false there back
@@ -153,7 +153,7 @@ module _ {S : Type 0} (r : Rules) (fair : Fair r) where
         order = h .order;
         used = λ t q. h .used t (sym (ap (isIn t) (numbers-each numberAt forgot (λ x. refl) fs)) ∙ q);
         small = h .small;
-        local = λ t. subst (λ (o : Option (ServerChannel S)). Local r cup false (find numberOf t cs) o (asks t there) (tells-of t back)) (sym (find-each numberAt forgot (λ x. refl) t fs)) (forgot-local r cup (find numberOf t cs) (find numberAt t fs) (asks t there) (tells-of t back) (h .local t))
+        local = λ t. subst (λ (o : Option (ServerChannel S)). Local r cup false (find numberOf t cs) o (asks t there) (tells-of t back)) (sym (find-each numberAt forgot (λ x. refl) t fs)) (forgot-local r cup (find numberOf t cs) (find numberAt t fs) (asks t there) (tells-of t back) (h .local t));
       }
 
 module _ {S E : Type 0} (r : Rules) (fair : Fair r) where
@@ -173,7 +173,7 @@ module _ {S E : Type 0} (r : Rules) (fair : Fair r) where
           let k2 = subst (λ (l : List ToClient). Known r (c .channels) (c .up) (each sentBack (s .channels)) (s .used) true there l) (append-assoc back ms (gather (repliesOf r) (s .channels))) k in
           let k3 = subst (λ (b : Bool). Known r (c .channels) (c .up) (each sentBack (s .channels)) (s .used) b there (back ++ (ms ++ gather (repliesOf r) (s .channels)))) (sym e) k2 in
           whole r c (withAll (each sentBack (s .channels)) s) there (back ++ (ms ++ gather (repliesOf r) (s .channels))) k3 i
-            (λ u t y q. let z = mapped-is sentBack (find numberAt t (s .channels)) y (sym (find-each numberAt sentBack key-sent t (s .channels)) ∙ q) in ap (replies r) (z .2) ∙ idle-sent r (z .0))
+          (λ u t y q. let z = mapped-is sentBack (find numberAt t (s .channels)) y (sym (find-each numberAt sentBack key-sent t (s .channels)) ∙ q) in ap (replies r) (z .2) ∙ idle-sent r (z .0))
       go false e = forgets-if c s there (back ++ ms) h e i (every isOver (s .channels))
 
 -- One channel changes at one side.
@@ -198,9 +198,9 @@ module _ {S : Type 0} (r : Rules) where
         used = h .used;
         small = λ t q. h .small t (sym (ap (isIn t) (numbers-change numberOf k g kg cs)) ∙ q);
         local = λ t. subst (λ (o : Option ClientChannel). Local r cup sup o (find numberAt t fs) (asks t there′) (tells-of t back′)) (sym (find-change numberOf k g kg t cs))
-          (by-number (λ (o : Option ClientChannel). Local r cup sup o (find numberAt t fs) (asks t there′) (tells-of t back′)) k t (mapped g (find numberOf t cs)) (find numberOf t cs)
+            (by-number (λ (o : Option ClientChannel). Local r cup sup o (find numberAt t fs) (asks t there′) (tells-of t back′)) k t (mapped g (find numberOf t cs)) (find numberOf t cs)
             (λ e. subst (λ (n : ℕ). Local r cup sup (mapped g (find numberOf n cs)) (find numberAt n fs) (asks n there′) (tells-of n back′)) (sym e) own)
-            (λ e. subst (λ (l : List Request). Local r cup sup (find numberOf t cs) (find numberAt t fs) l (tells-of t back′)) (sym (others t e .0)) (subst (λ (l : List Reply). Local r cup sup (find numberOf t cs) (find numberAt t fs) (asks t there) l) (sym (others t e .1)) (h .local t))))
+            (λ e. subst (λ (l : List Request). Local r cup sup (find numberOf t cs) (find numberAt t fs) l (tells-of t back′)) (sym (others t e .0)) (subst (λ (l : List Reply). Local r cup sup (find numberOf t cs) (find numberAt t fs) (asks t there) l) (sym (others t e .1)) (h .local t))));
       }
 
   pub server-changes : (cs : List ClientChannel) (cup : Bool) (fs : List (ServerChannel S)) (came : List ℕ) (sup : Bool) (there there′ : List ToServer) (back back′ : List ToClient) (k : ℕ) (g : ServerChannel S → ServerChannel S) →
@@ -216,7 +216,7 @@ module _ {S : Type 0} (r : Rules) where
         used = λ t q. h .used t (sym (ap (isIn t) (numbers-change numberAt k g kg fs)) ∙ q);
         small = h .small;
         local = λ t. subst (λ (o : Option (ServerChannel S)). Local r cup sup (find numberOf t cs) o (asks t there′) (tells-of t back′)) (sym (find-change numberAt k g kg t fs))
-          (by-number (λ (o : Option (ServerChannel S)). Local r cup sup (find numberOf t cs) o (asks t there′) (tells-of t back′)) k t (mapped g (find numberAt t fs)) (find numberAt t fs)
+            (by-number (λ (o : Option (ServerChannel S)). Local r cup sup (find numberOf t cs) o (asks t there′) (tells-of t back′)) k t (mapped g (find numberAt t fs)) (find numberAt t fs)
             (λ e. subst (λ (n : ℕ). Local r cup sup (find numberOf n cs) (mapped g (find numberAt n fs)) (asks n there′) (tells-of n back′)) (sym e) own)
-            (λ e. subst (λ (l : List Request). Local r cup sup (find numberOf t cs) (find numberAt t fs) l (tells-of t back′)) (sym (others t e .0)) (subst (λ (l : List Reply). Local r cup sup (find numberOf t cs) (find numberAt t fs) (asks t there) l) (sym (others t e .1)) (h .local t))))
+            (λ e. subst (λ (l : List Request). Local r cup sup (find numberOf t cs) (find numberAt t fs) l (tells-of t back′)) (sym (others t e .0)) (subst (λ (l : List Reply). Local r cup sup (find numberOf t cs) (find numberAt t fs) (asks t there) l) (sym (others t e .1)) (h .local t))));
       }

@@ -8,7 +8,9 @@ use native.Mathlib.Omega.{arith}
 use lib.Dec.{eqb, ltb}
 use Rattle.std.specs.declared.option.Option.the-variants.{Some, None}
 use Rattle.std.proofs.shelf.Tests.{eqb-true, eqb-false, eq-eqb, ne-eqb, ltb-true, and-parts}
+use Rattle.std.specs.Options.{mapped}
 use Rattle.model.specs.Keyed.{find, change, numbers, every, isIn, above, gather, each}
+use Rattle.model.proofs.Finds
 
 module _ {X : Type 0} where
   -- what holds of every member
@@ -69,33 +71,18 @@ module _ {X : Type 0} (key : X → ℕ) where
       go (inr b) = subst Q (sym (b .3)) (new (b .0) (b .1) (b .2) (h (b .0) (b .1)))
 
   pub find-mem : (t : ℕ) (xs : List X) (x : X) → find key t xs ≡ Some x → List·Memᴰ x xs × (key x ≡ t)
-  unfolding find
-  find-mem t [] x e = absurd (let z : _≡_ {A = ℕ} 0 1 = cc in omega arith)
-  find-mem t (y ∷ xs) x e = go (eqb (key y) t) refl e (find-mem t xs x)
-    where
-      go : (b : Bool) → eqb (key y) t ≡ b → cond b (Some y) (find key t xs) ≡ Some x → (find key t xs ≡ Some x → List·Memᴰ x xs × (key x ≡ t)) → List·Memᴰ x (y ∷ xs) × (key x ≡ t)
-      go true b d ih = let same : x ≡ y = cc in (List·Memᴰ·head same, ap key same ∙ eqb-true (key y) t b)
-      go false b d ih = (List·Memᴰ·tail (ih d .0), ih d .1)
+  find-mem t xs x e = (Finds.find-mem key t xs x e, Finds.find-key key t xs x e)
 
   -- numbers
   pub numbers-each : (f : X → X) (xs : List X) → ((x : X) → key (f x) ≡ key x) → numbers key (each f xs) ≡ numbers key xs
-  unfolding numbers each
-  numbers-each f [] h = refl
-  numbers-each f (x ∷ xs) h = let a = h x in let b = numbers-each f xs h in cc
+  numbers-each f xs h = Finds.numbers-each key f h xs
 
   pub numbers-change : (t : ℕ) (f : X → X) (xs : List X) → ((x : X) → key x ≡ t → key (f x) ≡ t) → numbers key (change key t f xs) ≡ numbers key xs
-  unfolding numbers change
-  numbers-change t f [] h = refl
-  numbers-change t f (x ∷ xs) h = let a = go (eqb (key x) t) refl in let b = numbers-change t f xs h in cc
-    where
-      go : (b : Bool) → eqb (key x) t ≡ b → key (cond b (f x) x) ≡ key x
-      go true b = let e = eqb-true (key x) t b in h x e ∙ sym e
-      go false b = refl
+  numbers-change t f xs h = Finds.numbers-change key t f h xs
 
   pub numbers-end : (xs : List X) (y : X) → numbers key (xs ++ y ∷ []) ≡ numbers key xs ++ key y ∷ []
   unfolding numbers
-  numbers-end [] y = refl
-  numbers-end (x ∷ xs) y = ap (λ ns. key x ∷ ns) (numbers-end xs y)
+  numbers-end xs y = Finds.numbers-append key xs (y ∷ [])
 
   -- what is found
   pub find-none : (t : ℕ) (xs : List X) → All (λ x. key x ≡ t → ⊥) xs → find key t xs ≡ None
@@ -104,38 +91,13 @@ module _ {X : Type 0} (key : X → ℕ) where
   find-none t (x ∷ xs) h = ap (λ b. cond b (Some x) (find key t xs)) (ne-eqb (key x) t (h x (List·Memᴰ·head refl))) ∙ find-none t xs (λ y m. h y (List·Memᴰ·tail m))
 
   pub find-each : (f : X → X) → ((x : X) → key (f x) ≡ key x) → (t : ℕ) (xs : List X) (x : X) → find key t xs ≡ Some x → find key t (each f xs) ≡ Some (f x)
-  unfolding find each
-  find-each f h t [] x e = absurd (let z : _≡_ {A = ℕ} 0 1 = cc in omega arith)
-  find-each f h t (y ∷ xs) x e = ap (λ k. cond (eqb k t) (Some (f y)) (find key t (each f xs))) (h y) ∙ go (eqb (key y) t) e (find-each f h t xs x)
-    where
-      go : (b : Bool) → cond b (Some y) (find key t xs) ≡ Some x → (find key t xs ≡ Some x → find key t (each f xs) ≡ Some (f x)) → cond b (Some (f y)) (find key t (each f xs)) ≡ Some (f x)
-      go true a ih = let s : y ≡ x = cc in ap (λ z. Some (f z)) s
-      go false a ih = ih a
+  find-each f h t xs x e = Finds.find-each key f h t xs ∙ ap (mapped f) e
 
   pub find-change-same : (t : ℕ) (f : X → X) → ((z : X) → key z ≡ t → key (f z) ≡ t) → (xs : List X) (x : X) → find key t xs ≡ Some x → find key t (change key t f xs) ≡ Some (f x)
-  unfolding find change
-  find-change-same t f h [] x e = absurd (let z : _≡_ {A = ℕ} 0 1 = cc in omega arith)
-  find-change-same t f h (z ∷ xs) x e = go (eqb (key z) t) refl e (find-change-same t f h xs x)
-    where
-      go : (b : Bool) → eqb (key z) t ≡ b → cond b (Some z) (find key t xs) ≡ Some x → (find key t xs ≡ Some x → find key t (change key t f xs) ≡ Some (f x)) → cond (eqb (key (cond b (f z) z)) t) (Some (cond b (f z) z)) (find key t (change key t f xs)) ≡ Some (f x)
-      go true b a ih =
-          let s : z ≡ x = cc in
-          ap (λ c. cond c (Some (f z)) (find key t (change key t f xs))) (eq-eqb (key (f z)) t (h z (eqb-true (key z) t b))) ∙ ap (λ y. Some (f y)) s
-      go false b a ih = ap (λ c. cond c (Some z) (find key t (change key t f xs))) b ∙ ih a
+  find-change-same t f h xs x e = Finds.find-change key t f h t xs ∙ ap (λ b. cond b (mapped f (find key t xs)) (find key t xs)) (eq-eqb t t refl) ∙ ap (mapped f) e
 
   pub find-change-other : (t u : ℕ) (f : X → X) → ((z : X) → key z ≡ t → key (f z) ≡ t) → eqb u t ≡ false → (xs : List X) → find key u (change key t f xs) ≡ find key u xs
-  unfolding find change
-  find-change-other t u f h n [] = refl
-  find-change-other t u f h n (z ∷ xs) = go (eqb (key z) t) refl (find-change-other t u f h n xs)
-    where
-      off : (k : X) → key k ≡ t → eqb (key k) u ≡ false
-      off k b = ne-eqb (key k) u (λ c. eqb-false u t n (sym c ∙ b))
-
-      go : (b : Bool) → eqb (key z) t ≡ b → find key u (change key t f xs) ≡ find key u xs → cond (eqb (key (cond b (f z) z)) u) (Some (cond b (f z) z)) (find key u (change key t f xs)) ≡ cond (eqb (key z) u) (Some z) (find key u xs)
-      go true b ih =
-          let k = eqb-true (key z) t b in
-          ap (λ c. cond c (Some (f z)) (find key u (change key t f xs))) (off (f z) (h z k)) ∙ (ih ∙ sym (ap (λ c. cond c (Some z) (find key u xs)) (off z k)))
-      go false b ih = ap (λ o. cond (eqb (key z) u) (Some z) o) ih
+  find-change-other t u f h n xs = Finds.find-change key t f h u xs ∙ ap (λ b. cond b (mapped f (find key u xs)) (find key u xs)) (ne-eqb t u (λ q. eqb-false u t n (sym q)))
 
   pub find-end-some : (t : ℕ) (xs ys : List X) (x : X) → find key t xs ≡ Some x → find key t (xs ++ ys) ≡ Some x
   unfolding find
@@ -192,36 +154,14 @@ mem-gather {X} {M} f {y} (x ∷ xs) m = go (List·Memᴰ·append-cases (f x) m) 
 
 -- numbers that were used
 pub used-below : (m t : ℕ) (ns : List ℕ) → isIn m ns ≡ true → above t ns ≡ true → m < t
-unfolding isIn above
-used-below m t [] a b = absurd (let z : _≡_ {A = ℕ} 0 1 = cc in omega arith)
-used-below m t (n ∷ ns) a b = go (eqb n m) refl a (used-below m t ns)
-  where
-    both : (ltb n t ≡ true) × (above t ns ≡ true)
-    both = and-parts (ltb n t) (above t ns) b
-
-    go : (c : Bool) → eqb n m ≡ c → cond c true (isIn m ns) ≡ true → (isIn m ns ≡ true → above t ns ≡ true → m < t) → m < t
-    go true c d ih = let e = eqb-true n m c in let f = ltb-true n t (both .0) in omega arith
-    go false c d ih = ih d (both .1)
+used-below m t ns a b = Finds.above-in t m ns b a
 
 pub used-end : (t : ℕ) (ns : List ℕ) → isIn t (ns ++ t ∷ []) ≡ true
-unfolding isIn
-used-end t [] = ap (λ b. cond b true false) (eq-eqb t t refl)
-used-end t (n ∷ ns) = go (eqb n t) (used-end t ns)
-  where
-    go : (b : Bool) → isIn t (ns ++ t ∷ []) ≡ true → cond b true (isIn t (ns ++ t ∷ [])) ≡ true
-    go true e = refl
-    go false e = e
+used-end t ns = Finds.in-middle t ns []
 
 module _ {X : Type 0} (key : X → ℕ) where
   pub mem-number : {x : X} (xs : List X) → List·Memᴰ x xs → isIn (key x) (numbers key xs) ≡ true
-  unfolding isIn numbers
-  mem-number [] m = absurd (List·Memᴰ·not-nil m)
-  mem-number {x} (y ∷ xs) (List·Memᴰ·head e) = ap (λ b. cond b true (isIn (key x) (numbers key xs))) (eq-eqb (key y) (key x) (ap key (sym e)))
-  mem-number {x} (y ∷ xs) (List·Memᴰ·tail m) = go (eqb (key y) (key x)) (mem-number xs m)
-    where
-      go : (b : Bool) → isIn (key x) (numbers key xs) ≡ true → cond b true (isIn (key x) (numbers key xs)) ≡ true
-      go true e = refl
-      go false e = e
+  mem-number {x} xs m = Finds.in-numbers key x xs m
 
   -- a number above all is not found
   pub above-none : (t : ℕ) (xs : List X) → above t (numbers key xs) ≡ true → find key t xs ≡ None

@@ -84,8 +84,7 @@ those g (Some x) = g x
 
 -- of what all channels send, what one of them does, where numbers rise
 module _ {X M N : Type 0} (key : X → ℕ) (own : ℕ → List M → List N) (own-append : (t : ℕ) (a b : List M) → own t (a ++ b) ≡ own t a ++ own t b) (own-nil : (t : ℕ) → own t [] ≡ [])
-  (sends : X → List M) (g : X → List N) (own-sends : (t : ℕ) (x : X) → own t (sends x) ≡ cond (eqb (key x) t) (g x) []) where
-
+    (sends : X → List M) (g : X → List N) (own-sends : (t : ℕ) (x : X) → own t (sends x) ≡ cond (eqb (key x) t) (g x) []) where
   own-none : (t : ℕ) (xs : List X) → isIn t (numbers key xs) ≡ false → own t (gather sends xs) ≡ []
   unfolding gather numbers isIn
   own-none t [] h = own-nil t

@@ -235,7 +235,7 @@ flushedRunning x =
       said = x .said || eofNow x;
       got = x .got;
       taken = x .taken;
-      exit = x .exit
+      exit = x .exit;
     }
 
 abbrev pub flushed : ClientChannel → ClientChannel

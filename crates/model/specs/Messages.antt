@@ -26,17 +26,17 @@ pub record Rules : Type 0 where
 -- the real limits, with any table of users and commands
 abbrev pub real : (ℕ → ℕ → List ℕ → Bool) → (ℕ → ℕ → Bool) → Rules
 real accepts may = record {
-    window = 8192;
-    part = 1024;
-    most = 16;
-    waiting = 16384;
-    last = 65535;
-    tries = 3;
-    drain = 64;
-    counts = 0xffff_ffff_ffff_ffff;
-    accepts = accepts;
-    may = may
-  }
+  window = 8192;
+  part = 1024;
+  most = 16;
+  waiting = 16384;
+  last = 65535;
+  tries = 3;
+  drain = 64;
+  counts = 0xffff_ffff_ffff_ffff;
+  accepts = accepts;
+  may = may;
+}
 
 -- limits under which the promises hold: no window, part or drain is empty, and a window can be counted
 pub record Fair (r : Rules) : Type 0 where
@@ -44,6 +44,10 @@ pub record Fair (r : Rules) : Type 0 where
   pub part : 0 < r .part
   pub drain : 0 < r .drain
   pub counts : r .window ≤ r .counts
+
+-- The real limits are such.
+abbrev pub RealIsFair : Type 0
+RealIsFair = (accepts : ℕ → ℕ → List ℕ → Bool) (may : ℕ → ℕ → Bool) → Fair (real accepts may)
 
 -- of one channel, to the server: run a command; input; so many more bytes of output may come; no more input; the client is done with it
 pub data Request : Type 0 where

@@ -120,7 +120,7 @@ abbrev pub DrainEnds : (S E : Type 0) → Type 0
 DrainEnds S E =
     (r : Rules) → Fair r → (p : Programs S E) (e : E) (vs : List Event) → after r p e vs .server .up ≡ false → (f : ServerChannel S) → AtServer f (after r p e vs) → (f .left ≤ r .drain) ×
     ((fs : List Event) → f .left ≤ turnsOf (f .number) fs → after r p e (fs ++ vs) .connection ≡ after r p e vs .connection →
-      (g : ServerChannel S) → AtServer g (after r p e (fs ++ vs)) → g .number ≡ f .number → isSome (g .exit) ≡ true)
+    (g : ServerChannel S) → AtServer g (after r p e (fs ++ vs)) → g .number ≡ f .number → isSome (g .exit) ≡ true)
 
 abbrev pub StatusInRange : (S E : Type 0) → Type 0
 StatusInRange S E = (r : Rules) (p : Programs S E) (e : E) (vs : List Event) (f : ServerChannel S) (n : ℕ) → AtServer f (after r p e vs) → f .exit ≡ Some n → n ≤ 255

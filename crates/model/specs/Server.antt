@@ -150,7 +150,7 @@ module _ {S : Type 0} where
         exit = x .exit;
         said = x .said || (exitNow x && isSome (x .exit));
         left = x .left;
-        forgotten = x .forgotten
+        forgotten = x .forgotten;
       }
 
   abbrev pub sentBack : ServerChannel S → ServerChannel S
@@ -187,8 +187,8 @@ module _ {S E : Type 0} where
   loginBy r n u p None s = cond (r .accepts n u p)
       (did (server (s .channels) (s .used) (Some u) (s .tries) (s .env) (s .up)) (Accepted true ∷ []))
       (cond (ltb (suc (s .tries)) (r .tries))
-        (did (server (s .channels) (s .used) None (suc (s .tries)) (s .env) (s .up)) (Accepted false ∷ []))
-        (did (server (s .channels) (s .used) None (suc (s .tries)) (s .env) false) []))
+      (did (server (s .channels) (s .used) None (suc (s .tries)) (s .env) (s .up)) (Accepted false ∷ []))
+      (did (server (s .channels) (s .used) None (suc (s .tries)) (s .env) false) []))
 
   -- A start: it runs if its number is larger than all before, somebody is accepted who may, and there is room.
   abbrev pub newProgram : Rules → Programs S E → (number command user : ℕ) → E → ServerChannel S

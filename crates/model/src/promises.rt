@@ -1,5 +1,13 @@
 // What holds after every list of events, for any programs.
+ghost use Rattle.model.specs.Messages.{RealIsFair};
 ghost use Rattle.model.specs.Promises.{AllForgotten, DrainEnds, ForgottenWasShown, InputIsPrefix, NothingOfBefore, OneUser, OutputIsPrefix, RanByItself, RefusedChangesNothing, RunsOnce, StartedByWhoMay, StatusInRange, WindowsHold};
+
+// The real limits meet what the promises ask of limits.
+pub fn real_is_fair() -> u8
+    ensures { λ _. ⌜ RealIsFair ⌝ }
+{
+    0
+}
 
 // Whatever runs, or ran, was started in this login by who may.
 pub fn started_by_who_may<S, E>() -> u8
