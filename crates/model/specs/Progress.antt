@@ -3,7 +3,7 @@ use mathlib.Core.Bool.{Bool, true, false, cond, _&&_, not}
 use mathlib.Core.List.{List, [], _∷_, _++_, List·Memᴰ}
 use mathlib.Core.Path.{_≡_}
 use Prim.Native.Nat.{ℕ, zero, suc, _+_, _*_, _<_, _≤_, min}
-use lib.Dec.{eqb}
+use lib.Dec.{eqb, ltb}
 use lib.ListN.{length, take}
 use Rattle.std.specs.declared.option.Option.{Option}
 use Rattle.std.specs.declared.option.Option.the-variants.{Some, None}
@@ -64,7 +64,18 @@ NoLogin (Login u q ∷ ms) = ⊥
 NoLogin (Tick ∷ ms) = NoLogin ms
 NoLogin (For t m ∷ ms) = NoLogin ms
 
+-- whether the logins on the way leave the server up: somebody is accepted, or one of them will be before too many fail, or too few of them can fail
+unfoldable pub endures : Rules → (connection : ℕ) → Option ℕ → (tries : ℕ) → List ToServer → Bool
+endures r n (Some u) k ms = true
+endures r n None k [] = true
+endures r n None k (Login u q ∷ ms) = cond (r .accepts n u q) true (ltb (suc k) (r .tries) && endures r n None (suc k) ms)
+endures r n None k (Tick ∷ ms) = endures r n None k ms
+endures r n None k (For t m ∷ ms) = endures r n None k ms
+
 module _ {S E : Type 0} where
+  abbrev pub Endures : Rules → World S E → Type 0
+  Endures r w = endures r (w .connection) (w .server .user) (w .server .tries) (w .there) ≡ true
+
   abbrev pub Empty : World S E → Type 0
   Empty w = (w .there ≡ []) × (w .back ≡ [])
 
@@ -84,14 +95,14 @@ unfoldable pub Busy : {S E : Type 0} → Rules → Programs S E → E → List E
 Busy r p e vs [] = Unit {0}
 Busy r p e vs (f ∷ fs) = Finds f (after r p e (fs ++ vs)) × Busy r p e vs fs
 
--- Any order of arrivals comes to an end, and no fault is met; where none can be made any more, both ways are empty.
+-- Any order of arrivals comes to an end, and no fault is met, unless logins on the way take the server down; where none can be made any more, both ways are empty.
 abbrev pub Settles : (S E : Type 0) → Type 0
 Settles S E =
-    (r : Rules) → Fair r → (p : Programs S E) (e : E) (vs fs : List Event) → Up (after r p e vs) → Busy r p e vs fs →
+    (r : Rules) → Fair r → (p : Programs S E) (e : E) (vs fs : List Event) → Up (after r p e vs) → Endures r (after r p e vs) → Busy r p e vs fs →
     Up (after r p e (fs ++ vs)) × (length fs ≤ (length (after r p e vs .there) + length (after r p e vs .back)) * ((r .window + 2) * (r .window + 2)))
 
 abbrev pub CanSettle : (S E : Type 0) → Type 0
-CanSettle S E = (r : Rules) → Fair r → (p : Programs S E) (e : E) (vs : List Event) → Up (after r p e vs) → (fs : List Event) × Busy r p e vs fs × Empty (after r p e (fs ++ vs))
+CanSettle S E = (r : Rules) → Fair r → (p : Programs S E) (e : E) (vs : List Event) → Up (after r p e vs) → Endures r (after r p e vs) → (fs : List Event) × Busy r p e vs fs × Empty (after r p e (fs ++ vs))
 
 -- What a program wrote, and its exit, come to the user by arrivals, and takings of this channel alone, whatever the other channels hold.
 abbrev pub OutputComes : (S E : Type 0) → Type 0
