@@ -1,0 +1,4 @@
+pub mod Adding
+pub mod Back
+pub mod Lines
+pub mod Sound

@@ -1,0 +1,5 @@
+pub mod Answers
+pub mod Good
+pub mod Lines
+pub mod Reports
+pub mod Written

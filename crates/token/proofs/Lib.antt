@@ -1,0 +1,10 @@
+pub mod Adding
+pub mod Back
+pub mod BackBytes
+pub mod Cuts
+pub mod Digits
+pub mod Exits
+pub mod Scan
+pub mod Sound
+pub mod Unquote
+pub mod Whole
