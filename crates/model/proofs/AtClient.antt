@@ -83,6 +83,7 @@ module _ {S : Type 0} (r : Rules) (fair : Fair r) (sup : Bool) where
       record {
         none-back = k .told (told .0);
         told = told .0;
+        all = eqb-true (x .taken) (length (x .got)) (told .1);
         gone = λ u g. absurd (true≢false (sym g ∙ k .kept u));
         close = λ u g. hasClose-append us (running r x) ∙ ap (λ b. b || hasClose (running r x)) (k .open-yet) ∙ close-inputs (parts (length (goes x)) (r .part) (goes x)) (eofNow x) (closeNow x) ∙ e;
       }
@@ -156,7 +157,7 @@ module _ {S : Type 0} (r : Rules) (cup sup : Bool) where
   phase-typed Asked i b x f us ds h = record { fresh = fresh-typed i b x (h .fresh); none-there = h .none-there; rest = h .rest; answer = h .answer; answered = h .answered; kept = h .kept }
   phase-typed Running i b x f us ds h = record { answered = h .answered; told = h .told; open-yet = h .open-yet; kept = h .kept }
   phase-typed Refused i b x f us ds h = absurd h
-  phase-typed Closed i b x f us ds h = record { none-back = h .none-back; told = h .told; gone = h .gone; close = h .close }
+  phase-typed Closed i b x f us ds h = record { none-back = h .none-back; told = h .told; all = h .all; gone = h .gone; close = h .close }
 
   typed-local : (i : List ℕ) (b : Bool) (x : ClientChannel) (sx : Option (ServerChannel S)) (us : List Request) (ds : List Reply) →
       ((cells : List Cell) (got : List ℕ) (told : Option ℕ) → Flow (x .input) (x .sent) (eofs (x .eof)) (x .said) cells got told → Flow i (x .sent) (eofs b) (x .said) cells got told) →

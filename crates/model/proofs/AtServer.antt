@@ -110,7 +110,7 @@ module _ {S : Type 0} (r : Rules) (fair : Fair r) (cup : Bool) (x : ClientChanne
         kept = k .kept;
       }
   flushed-phase Refused h k = k
-  flushed-phase Closed h k = record { none-back = ap (λ l. l ++ keeps r f) (k .none-back) ∙ told-none (h .output) (k .told); told = k .told; gone = k .gone; close = k .close }
+  flushed-phase Closed h k = record { none-back = ap (λ l. l ++ keeps r f) (k .none-back) ∙ told-none (h .output) (k .told); told = k .told; all = k .all; gone = k .gone; close = k .close }
 
   flush-kept : Pair r cup true x f us ds → Pair r cup true x (sentKept f) us (ds ++ keeps r f)
   flush-kept h =

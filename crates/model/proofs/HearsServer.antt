@@ -48,7 +48,7 @@ module _ {S : Type 0} (x : ClientChannel) (f : ServerChannel S) (us : List Reque
   next-phase m y e c h Asked k = absurd (not-nil m us (k .none-there))
   next-phase m y e c h Running k = record { answered = k .answered; told = k .told; open-yet = sym c ∙ k .open-yet; kept = λ u. e ∙ h }
   next-phase m y e c h Refused k = k
-  next-phase m y e c h Closed k = record { none-back = k .none-back; told = k .told; gone = λ u g. absurd (true≢false (sym g ∙ e ∙ h)); close = λ u g. sym c ∙ k .close u h }
+  next-phase m y e c h Closed k = record { none-back = k .none-back; told = k .told; all = k .all; gone = λ u g. absurd (true≢false (sym g ∙ e ∙ h)); close = λ u g. sym c ∙ k .close u h }
 
 module _ {S : Type 0} (r : Rules) (fair : Fair r) (cup : Bool) (x : ClientChannel) (f : ServerChannel S) (us : List Request) (ds : List Reply) (h0 : f .forgotten ≡ false) where
   kept-hears : (m : Request) → hearAt r m f ≡ hearKept r m f
@@ -127,7 +127,7 @@ module _ {S : Type 0} (r : Rules) (fair : Fair r) (cup : Bool) (x : ClientChanne
   closed-phase Asked k e = absurd (not-nil Close us (k .none-there))
   closed-phase Running k e = absurd (true≢false (k .open-yet))
   closed-phase Refused k e = absurd k
-  closed-phase Closed k e = (record { none-back = k .none-back; told = k .told; gone = λ u g. e; close = λ u g. absurd (true≢false g) }, k .told)
+  closed-phase Closed k e = (record { none-back = k .none-back; told = k .told; all = k .all; gone = λ u g. e; close = λ u g. absurd (true≢false g) }, k .told)
 
   said-by : (o : Option ℕ) → isSome o ≡ true → Flow (f .wrote) (f .sent) (f .exit) (f .said) (cellsOut ds) (x .got) o → f .said ≡ true
   said-by None t h = absurd (true≢false (sym t))

@@ -15,11 +15,11 @@ use Rattle.model.specs.Messages.{Rules, Fair, Request, Reply, ToServer, ToClie
 use Rattle.model.specs.Client.{Client, ClientChannel, newClient, numberOf, channelAt, Phase, Asked, Running, Refused, Closed}
 use Rattle.model.specs.Server.{Server, ServerChannel, newServer, numberAt, channelOf}
 use Rattle.model.specs.World.{World, Event, User, Turn, ArriveThere, ArriveHere, CutHere, CutThere, Connect, Time, arriveThere, arriveHere, canConnect, connected, step, after}
-use Rattle.model.specs.Promises.{AtClient, AtServer, InputTrue, OutputTrue, InWindow, InputIsPrefix, OutputIsPrefix, ForgottenWasShown}
+use Rattle.model.specs.Promises.{AtClient, AtServer, InputTrue, OutputTrue, InWindow, InputIsPrefix, OutputIsPrefix, ForgottenWasShown, ClosedWasTaken}
 use Rattle.model.proofs.Finds.{found, find-mem, find-key}
 use Rattle.model.proofs.Ways.{asks, tells-of}
 use Rattle.model.proofs.Flow.{Cell, bytes, Flow, flow-prefix, flow-told, flow-count}
-use Rattle.model.proofs.Local.{cellsIn, cellsOut, eofs, InPhase, Pair, Local, Fresh}
+use Rattle.model.proofs.Local.{cellsIn, cellsOut, eofs, AloneIn, InPhase, Pair, Local, Fresh}
 use Rattle.model.proofs.Inv.{starts, InvOf, Inv}
 use Rattle.model.proofs.ByClient.{obeyed, taken-in, cut-client}
 use Rattle.model.proofs.ByServer.{took-turn, lost}
@@ -161,7 +161,34 @@ module _ {S E : Type 0} (r : Rules) (fair : Fair r) (p : Programs S E) (e : E) w
         all-told None eo t g = absurd (true≢false (sym t))
         all-told (Some m) eo t g = (sym (append-nil (x .got)) ∙ ap (λ l. x .got ++ l) (sym (flow-told m g .1)) ∙ flow-prefix g, sym (flow-told m g .0), refl)
 
+module _ {S E : Type 0} (r : Rules) (fair : Fair r) (p : Programs S E) (e : E) (vs : List Event) (x : ClientChannel) (mx : AtClient x (after r p e vs)) (cl : x .phase ≡ Closed) where
+  abbrev Whole : Type 0
+  Whole = (x .taken ≡ length (x .got)) × (isSome (x .exit) ≡ true) × ((f : ServerChannel S) × AtServer f (after r p e vs) × (x .number ≡ f .number) × (x .got ≡ f .wrote) × (x .exit ≡ f .exit))
+
+  whole-of : (f : ServerChannel S) → AtServer f (after r p e vs) → x .number ≡ f .number → Whole
+  whole-of f mf n =
+      let h = pair-of r fair p e vs x f mx mf n in
+      let k = subst (λ (q : Phase). InPhase q (after r p e vs .server .up) x f (asks (x .number) (after r p e vs .there)) (tells-of (x .number) (after r p e vs .back))) cl (h .phase) in
+      let t = told (x .exit) (k .told) (h .output) in
+      (k .all, k .told, (f, mf, n, t .0, t .1))
+    where
+      told : (o : Option ℕ) → isSome o ≡ true → Flow (f .wrote) (f .sent) (f .exit) (f .said) (cellsOut (tells-of (x .number) (after r p e vs .back))) (x .got) o → (x .got ≡ f .wrote) × (o ≡ f .exit)
+      told None t g = absurd (true≢false (sym t))
+      told (Some m) t g = (sym (append-nil (x .got)) ∙ ap (λ l. x .got ++ l) (sym (flow-told m g .1)) ∙ flow-prefix g, sym (flow-told m g .0))
+
+  closed-whole : Whole
+  closed-whole = go (channelOf (x .number) (after r p e vs .server)) refl
+    where
+      go : (o : Option (ServerChannel S)) → channelOf (x .number) (after r p e vs .server) ≡ o → Whole
+      go None q = absurd (subst (λ (ph : Phase). AloneIn ph x (asks (x .number) (after r p e vs .there)) (tells-of (x .number) (after r p e vs .back))) cl
+          (subst (λ (o : Option (ServerChannel S)). Local r (after r p e vs .client .up) (after r p e vs .server .up) (Some x) o (asks (x .number) (after r p e vs .there)) (tells-of (x .number) (after r p e vs .back))) q
+          (subst (λ (o : Option ClientChannel). Local r (after r p e vs .client .up) (after r p e vs .server .up) o (channelOf (x .number) (after r p e vs .server)) (asks (x .number) (after r p e vs .there)) (tells-of (x .number) (after r p e vs .back))) (found-here r fair p e vs x mx) (inv r fair p e vs .local (x .number))) .1))
+      go (Some f) q = whole-of f (find-mem numberAt (x .number) (after r p e vs .server .channels) f q) (sym (find-key numberAt (x .number) (after r p e vs .server .channels) f q))
+
 module _ {S E : Type 0} where
+  pub closed-was-taken : ClosedWasTaken S E
+  closed-was-taken r fair p e vs x m c = closed-whole r fair p e vs x m c
+
   pub input-is-prefix : InputIsPrefix S E
   input-is-prefix r fair p e vs x f mx mf q = input-true r fair p e vs x f (pair-of r fair p e vs x f mx mf q)
 

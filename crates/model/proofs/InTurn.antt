@@ -52,7 +52,7 @@ module _ {S : Type 0} (sup : Bool) (x : ClientChannel) (f : ServerChannel S) (us
   same-phase Asked y e k = record { fresh = k .fresh; none-there = k .none-there; rest = k .rest; answer = k .answer; answered = k .answered; kept = λ u. e ∙ k .kept u }
   same-phase Running y e k = record { answered = k .answered; told = k .told; open-yet = k .open-yet; kept = λ u. e ∙ k .kept u }
   same-phase Refused y e k = k
-  same-phase Closed y e k = record { none-back = k .none-back; told = k .told; gone = λ u g. k .gone u (sym e ∙ g); close = λ u g. k .close u (sym e ∙ g) }
+  same-phase Closed y e k = record { none-back = k .none-back; told = k .told; all = k .all; gone = λ u g. k .gone u (sym e ∙ g); close = λ u g. k .close u (sym e ∙ g) }
 
 module _ {S : Type 0} (r : Rules) (cup sup : Bool) (x : ClientChannel) (f : ServerChannel S) (us : List Request) (ds : List Reply) where
   pair-counted : Pair r cup sup x f us ds → Pair r cup sup x (counted f) us ds
@@ -203,7 +203,7 @@ module _ {S : Type 0} (r : Rules) where
   down-phase Asked sup x f y us ds k = record { fresh = k .fresh; none-there = k .none-there; rest = k .rest; answer = k .answer; answered = k .answered; kept = λ u. absurd (true≢false (sym u)) }
   down-phase Running sup x f y us ds k = record { answered = k .answered; told = k .told; open-yet = k .open-yet; kept = λ u. absurd (true≢false (sym u)) }
   down-phase Refused sup x f y us ds k = k
-  down-phase Closed sup x f y us ds k = record { none-back = k .none-back; told = k .told; gone = λ u g. absurd (true≢false (sym u)); close = λ u g. absurd (true≢false (sym u)) }
+  down-phase Closed sup x f y us ds k = record { none-back = k .none-back; told = k .told; all = k .all; gone = λ u g. absurd (true≢false (sym u)); close = λ u g. absurd (true≢false (sym u)) }
 
   pub cut-there : (cup sup : Bool) (cx : Option ClientChannel) (sx : Option (ServerChannel S)) (us : List Request) (ds : List Reply) → Local r cup sup cx sx us ds → Local r cup false cx sx us ds
   cut-there cup sup None None us ds h = h

@@ -116,6 +116,7 @@ module _ {S : Type 0} where
   pub record ClosedOk (sup : Bool) (x : ClientChannel) (f : ServerChannel S) (us : List Request) (ds : List Reply) : Type 0 where
     pub none-back : ds ≡ []
     pub told : isSome (x .exit) ≡ true
+    pub all : x .taken ≡ length (x .got)
     pub gone : sup ≡ true → f .forgotten ≡ true → us ≡ []
     pub close : sup ≡ true → f .forgotten ≡ false → hasClose us ≡ true
 

@@ -91,6 +91,12 @@ ForgottenWasShown S E =
     (r : Rules) → Fair r → (p : Programs S E) (e : E) (vs : List Event) (x : ClientChannel) (f : ServerChannel S) → AtClient x (after r p e vs) → AtServer f (after r p e vs) → x .number ≡ f .number →
     after r p e vs .server .up ≡ true → f .forgotten ≡ true → (x .got ≡ f .wrote) × (x .exit ≡ f .exit) × (isSome (x .exit) ≡ true)
 
+-- A channel is closed only when its exit was told and all output was taken.
+abbrev pub ClosedWasTaken : (S E : Type 0) → Type 0
+ClosedWasTaken S E =
+    (r : Rules) → Fair r → (p : Programs S E) (e : E) (vs : List Event) (x : ClientChannel) → AtClient x (after r p e vs) → x .phase ≡ Closed →
+    (x .taken ≡ length (x .got)) × (isSome (x .exit) ≡ true) × ((f : ServerChannel S) × AtServer f (after r p e vs) × (x .number ≡ f .number) × (x .got ≡ f .wrote) × (x .exit ≡ f .exit))
+
 -- 4. A program's state and writes are what its own turns give on what it read, which is a prefix of what came in.
 abbrev pub RanByItself : (S E : Type 0) → Type 0
 RanByItself S E =

@@ -1,6 +1,6 @@
 // What holds after every list of events, for any programs.
 ghost use Rattle.model.specs.Messages.{RealIsFair};
-ghost use Rattle.model.specs.Promises.{AllForgotten, DrainEnds, ForgottenWasShown, InputIsPrefix, NothingOfBefore, OneUser, OutputIsPrefix, RanByItself, RefusedChangesNothing, RunsOnce, StartedByWhoMay, StatusInRange, WindowsHold};
+ghost use Rattle.model.specs.Promises.{AllForgotten, ClosedWasTaken, DrainEnds, ForgottenWasShown, InputIsPrefix, NothingOfBefore, OneUser, OutputIsPrefix, RanByItself, RefusedChangesNothing, RunsOnce, StartedByWhoMay, StatusInRange, WindowsHold};
 
 // The real limits meet what the promises ask of limits.
 pub fn real_is_fair() -> u8
@@ -54,6 +54,13 @@ pub fn output_is_prefix<S, E>() -> u8
 // What the server forgot while the connection holds was all shown, and its exit told.
 pub fn forgotten_was_shown<S, E>() -> u8
     ensures { λ _. ⌜ ForgottenWasShown S E ⌝ }
+{
+    0
+}
+
+// A channel is closed only when its exit was told and all output was taken.
+pub fn closed_was_taken<S, E>() -> u8
+    ensures { λ _. ⌜ ClosedWasTaken S E ⌝ }
 {
     0
 }
