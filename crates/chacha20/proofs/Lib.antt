@@ -1,0 +1,5 @@
+pub mod States
+pub mod Vectors
+pub mod Bytes
+pub mod Streams
+pub mod Texts
