@@ -17,8 +17,9 @@ demo:
 
 vectors:
 	python3 tools/vectors.py
+	python3 tools/vm/cases.py
 
-bench: $(OUT)/crypto
+bench: $(OUT)/crypto target/bin/vm_run
 ifeq ($(SSL),yes)
 	@echo "-- beside OpenSSL with its special instructions"
 	@$(OUT)/crypto
@@ -28,6 +29,11 @@ else
 	@echo "-- no OpenSSL here (libssl-dev): beside plain C alone"
 	@$(OUT)/crypto
 endif
+	@echo "-- the virtual machine beside a switch loop in C"
+	@python3 bench/vm/bench.py
+
+target/bin/vm_run: crates/vm/src/*.rt crates/vm_run/src/*.rt
+	@rt check vm_run >$(OUT)/vm.log || { tail $(OUT)/vm.log; exit 1; }
 
 $(OUT)/crypto: bench/crypto/*.c bench/crypto/plain.h crates/cryptoffi/src/*.rt crates/sha256/src/*.rt crates/hmac/src/*.rt crates/chacha20/src/*.rt
 	mkdir -p $(OUT)

@@ -1,0 +1,10 @@
+use borrow.Author.Needs.{needs}
+use native.Mathlib.Omega.{arith}
+use mathlib.Core.Path.{refl, sym}
+use Rattle.ring.specs.Held.{held, capacityOf, turned}
+use Rattle.ring.proofs.Turned.{length-held}
+use Rattle.ring.proofs.Ring.len.Needs as need
+
+pub returns : need.returns
+unfolding capacityOf
+returns c = sym (length-held (c .args .self .now))

@@ -1,0 +1,2 @@
+; Never ends and never asks: each turn only goes on.
+again:  jump again
