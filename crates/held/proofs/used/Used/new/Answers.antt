@@ -1,0 +1,10 @@
+use borrow.Author.Needs.{needs}
+use native.Mathlib.Omega.{arith}
+use mathlib.Core.Path.{_≡_, refl, sym, ap, subst, _∙_}
+use Rattle.held.specs.Views.{marksOf}
+use Rattle.std.proofs.shelf.Lists.{getD-read-under}
+use Rattle.held.proofs.used.Used.new.Needs as need
+
+pub returns : need.returns
+unfolding marksOf
+returns c = c .in-Continue-marks .ensures tt .exact (λ y h. h)
