@@ -12,7 +12,7 @@ use lib.Seq.{drop-cons}
 use Rattle.std.proofs.shelf.Lists.{drop-all}
 use Rattle.std.specs.declared.option.Option.{Option}
 use Rattle.std.specs.declared.option.Option.the-variants.{Some, None}
-use Rattle.vm.specs.declared.program.Program.{Program}
+use Rattle.bytecode.specs.declared.program.Program.{Program}
 use Rattle.vm.specs.declared.table.Listed.{Listed}
 use Rattle.vm.specs.Commands.{programIn}
 

@@ -9,8 +9,8 @@ use Rattle.std.proofs.shelf.Maps.{nth-read, nth-past}
 use Rattle.std.specs.Finite.{nth}
 use Rattle.std.specs.declared.option.Option.the-variants.{Some, None}
 use Rattle.vm.specs.declared.machine.Machine.{Machine}
-use Rattle.vm.specs.declared.instruction.Instruction.{Instruction}
-use Rattle.vm.specs.declared.instruction.Instruction.the-variants.{Const, Move, Add, Compare, Jump, JumpLess, JumpEqual, Load, Store, Read, Write, End, GoOn}
+use Rattle.bytecode.specs.declared.instruction.Instruction.{Instruction}
+use Rattle.bytecode.specs.declared.instruction.Instruction.the-variants.{Const, Move, Add, Compare, Jump, JumpLess, JumpEqual, Load, Store, Read, Write, End, GoOn}
 use Rattle.vm.specs.Step.{execute, endsTurn}
 use Rattle.vm.specs.Turn.{stopsAt, stepAt, stops, stepped, runs}
 use Rattle.vm.specs.Ends.{complete, completeAt, resumed}

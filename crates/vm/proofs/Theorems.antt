@@ -15,8 +15,8 @@ use Rattle.std.specs.Finite.{nth}
 use Rattle.std.specs.declared.option.Option.{Option}
 use Rattle.std.specs.declared.option.Option.the-variants.{Some, None}
 use Rattle.model.specs.Messages.{Does, Reads, Writes, Ends, GoesOn}
-use Rattle.vm.specs.declared.instruction.Instruction.{Instruction}
-use Rattle.vm.specs.declared.instruction.Instruction.the-variants.{Const, Move, Add, Compare, Jump, JumpLess, JumpEqual, Load, Store, Read, Write, End, GoOn}
+use Rattle.bytecode.specs.declared.instruction.Instruction.{Instruction}
+use Rattle.bytecode.specs.declared.instruction.Instruction.the-variants.{Const, Move, Add, Compare, Jump, JumpLess, JumpEqual, Load, Store, Read, Write, End, GoOn}
 use Rattle.vm.specs.declared.machine.Machine.{Machine}
 use Rattle.vm.specs.declared.running.Running.{Running}
 use Rattle.vm.specs.declared.table.Table.{Table}

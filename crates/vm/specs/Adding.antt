@@ -9,7 +9,7 @@ use Rattle.std.specs.Options.{isSome}
 use Rattle.std.specs.declared.option.Option.the-variants.{Some, None}
 use Rattle.std.specs.declared.result.Result.{Result}
 use Rattle.std.specs.declared.result.Result.the-variants.{Ok, Err}
-use Rattle.vm.specs.declared.program.Program.{Program}
+use Rattle.bytecode.specs.declared.program.Program.{Program}
 use Rattle.vm.specs.declared.table.Table.{Table}
 use Rattle.vm.specs.declared.table.add.NotAdded.{NotAdded}
 use Rattle.vm.specs.declared.table.add.NotAdded.the-variants.{Taken, Full, NoMemory}

@@ -7,13 +7,13 @@ use Rattle.std.specs.declared.option.Option.{Option}
 use Rattle.std.specs.declared.option.Option.the-variants.{Some, None}
 use Rattle.std.specs.Of.Vec.{vec-items}
 use Rattle.model.specs.Messages.{Does}
-use Rattle.vm.specs.declared.instruction.Instruction.{Instruction}
+use Rattle.bytecode.specs.declared.instruction.Instruction.{Instruction}
 use Rattle.vm.specs.declared.machine.Machine.{Machine}
-use Rattle.vm.specs.declared.program.Program.{Program}
+use Rattle.bytecode.specs.declared.program.Program.{Program}
 use Rattle.vm.specs.declared.table.Listed.{Listed}
 use Rattle.vm.specs.declared.table.Table.{Table}
 use Rattle.vm.specs.declared.running.Running.{Running}
-use Rattle.vm.specs.Reading.{instructionsOf}
+use Rattle.bytecode.specs.Reading.{instructionsOf}
 use Rattle.vm.specs.Turn.{fresh, runs}
 use Rattle.vm.specs.Ends.{asksIn, resumed}
 

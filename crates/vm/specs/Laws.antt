@@ -1,4 +1,4 @@
--- What holds of turns, of what programs ask for, and of bytes. Each is a type; a proof of it is the theorem. Assumes nothing.
+-- What holds of turns, of what programs ask for, and of addresses. Each is a type; a proof of it is the theorem. Assumes nothing.
 use mathlib.Core.Bool.{Bool, true, false}
 use mathlib.Core.List.{List, []}
 use mathlib.Core.Logic.{_⊎_}
@@ -6,15 +6,12 @@ use mathlib.Core.Path.{_≡_}
 use Prim.Native.Nat.{ℕ, zero, suc, _+_, _%_, _<_, _≤_}
 use lib.ListN.{length, getD}
 use Rattle.model.specs.Messages.{Does, Reads, Writes, Ends, GoesOn}
-use Rattle.vm.specs.declared.instruction.Instruction.{Instruction}
+use Rattle.bytecode.specs.declared.instruction.Instruction.{Instruction}
 use Rattle.vm.specs.declared.machine.Machine.{Machine}
 use Rattle.vm.specs.declared.running.Running.{Running}
 use Rattle.vm.specs.declared.table.Table.{Table}
-use Rattle.vm.specs.declared.unreadable.Unreadable.{Unreadable}
 use Rattle.vm.specs.Turn.{stops, stepped, runs}
 use Rattle.vm.specs.Ends.{bytesFrom, bytesTo}
-use Rattle.vm.specs.Encoding.{bytesOf}
-use Rattle.vm.specs.Reading.{Stopped}
 use Rattle.vm.specs.Commands.{doesOf}
 
 -- the machine after exactly n instructions
@@ -52,11 +49,3 @@ ReadsRound =
     (at n : ℕ) (bytes memory : List ℕ) → length memory ≡ 256 →
     ((k : ℕ) → k < n → ((j : ℕ) → k < j → j < n → (at + j) % 256 ≡ (at + k) % 256 → ⊥) → getD (bytesTo at n bytes memory) ((at + k) % 256) 0 ≡ getD bytes k 0) ×
     ((a : ℕ) → ((j : ℕ) → j < n → (at + j) % 256 ≡ a → ⊥) → getD (bytesTo at n bytes memory) a 0 ≡ getD memory a 0)
-
--- No two programs have the same bytes, so what was written reads back as it was.
-abbrev pub BytesTell : Type 0
-BytesTell = (xs ys : List Instruction) → bytesOf xs ≡ bytesOf ys → xs ≡ ys
-
--- What is refused is no program: no row of at most 1,024 instructions has these bytes.
-abbrev pub RefusedIsNone : Type 0
-RefusedIsNone = (bytes : List ℕ) (e : Unreadable) → Stopped bytes e → (is : List Instruction) → length is ≤ 1024 → bytesOf is ≡ bytes → ⊥

@@ -1,8 +1,6 @@
 pub mod Step
 pub mod Turn
 pub mod Ends
-pub mod Encoding
-pub mod Reading
 pub mod Commands
 pub mod Adding
 pub mod Laws

@@ -5,10 +5,10 @@ use mathlib.Core.Path.{_≡_}
 use Prim.Native.Nat.{ℕ, _+_, _%_}
 use lib.Dec.{eqb, ltb}
 use lib.ListN.{getD, set}
-use Rattle.vm.specs.declared.register.Register.{Register}
+use Rattle.bytecode.specs.declared.register.Register.{Register}
 use Rattle.vm.specs.declared.machine.Machine.{Machine}
-use Rattle.vm.specs.declared.instruction.Instruction.{Instruction}
-use Rattle.vm.specs.declared.instruction.Instruction.the-variants.{Const, Move, Add, Compare, Jump, JumpLess, JumpEqual, Load, Store, Read, Write, End, GoOn}
+use Rattle.bytecode.specs.declared.instruction.Instruction.{Instruction}
+use Rattle.bytecode.specs.declared.instruction.Instruction.the-variants.{Const, Move, Add, Compare, Jump, JumpLess, JumpEqual, Load, Store, Read, Write, End, GoOn}
 
 -- the value of a register, and a register's new value
 abbrev pub get : Register → Machine → ℕ

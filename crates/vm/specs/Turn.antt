@@ -7,7 +7,7 @@ use Rattle.std.specs.declared.option.Option.{Option}
 use Rattle.std.specs.declared.option.Option.the-variants.{Some, None}
 use Rattle.std.specs.Finite.{nth}
 use Rattle.vm.specs.declared.machine.Machine.{Machine}
-use Rattle.vm.specs.declared.instruction.Instruction.{Instruction}
+use Rattle.bytecode.specs.declared.instruction.Instruction.{Instruction}
 use Rattle.vm.specs.Step.{execute, endsTurn}
 
 -- all registers and bytes are 0, no comparison has found anything, and the first instruction comes next

@@ -1,5 +1,5 @@
 // The laws of the machine: each is the promise of a function that does nothing.
-ghost use Rattle.vm.specs.Laws.{TurnIsShort, AsksWhatCanBe, WritesRound, ReadsRound, BytesTell, RefusedIsNone};
+ghost use Rattle.vm.specs.Laws.{TurnIsShort, AsksWhatCanBe, WritesRound, ReadsRound};
 
 // A turn is at most 10,000 instructions, and none before its last ends it.
 pub fn turn_is_short() -> u8
@@ -25,20 +25,6 @@ pub fn writes_round() -> u8
 // What is read goes to addresses that go round, and of two bytes at one address the later stays.
 pub fn reads_round() -> u8
     ensures { λ _. ⌜ ReadsRound ⌝ }
-{
-    0
-}
-
-// No two programs have the same bytes.
-pub fn bytes_tell() -> u8
-    ensures { λ _. ⌜ BytesTell ⌝ }
-{
-    0
-}
-
-// What is refused is no program.
-pub fn refused_is_none() -> u8
-    ensures { λ _. ⌜ RefusedIsNone ⌝ }
 {
     0
 }

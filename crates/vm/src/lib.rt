@@ -1,10 +1,6 @@
-// The virtual machine: a program's bytes, its instructions, and its turns.
+// The virtual machine: what an instruction does, a program's turns, and the table of commands that the server runs.
 pub mod instance;
-pub mod instruction;
 pub mod laws;
 pub mod machine;
-pub mod program;
-pub mod register;
 pub mod running;
 pub mod table;
-pub mod unreadable;

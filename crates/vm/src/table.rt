@@ -1,7 +1,7 @@
 // The programs of up to 64 commands.
 ghost use Prim.Native.Nat.{_≤_};
 ghost use Rattle.std.specs.Of.Vec.{vec-len};
-use crate::program::Program;
+use bytecode::program::Program;
 
 pub mod add;
 pub mod lookup;

@@ -1,11 +1,11 @@
 // Plays the programs of a file of cases, and prints what each did.
 use crate::fields::Case;
 use crate::play::Played;
+use bytecode::program::Program;
 use std::alloc::AllocError;
 use std::alloc::Global;
 use std::error::AnyError;
 use std::fs;
-use vm::program::Program;
 use vm::table::Table;
 
 mod digest;

@@ -9,9 +9,9 @@ ghost use Rattle.model.specs.Messages.{Reads, Ends};
 ghost use Rattle.programs.specs.Actions.{action};
 ghost use Rattle.vm.specs.Step.{get, endsTurn};
 ghost use Rattle.vm.specs.Ends.{bytesFrom, filled, isLength, asks, complete};
-use crate::instruction::Instruction;
 use crate::machine::Machine;
-use crate::register::Register;
+use bytecode::instruction::Instruction;
+use bytecode::register::Register;
 use message::chunk::Chunk;
 use programs::programs::Action;
 

@@ -3,9 +3,9 @@ ghost use Prim.Native.Nat.{_<_};
 ghost use mathlib.Core.Bool.{not};
 ghost use mathlib.Core.Path.{_≡_};
 ghost use Rattle.vm.specs.Step.{get, put, byteAt, stored, compared, execute, endsTurn};
-use crate::instruction::Instruction;
 use crate::machine::Machine;
-use crate::register::Register;
+use bytecode::instruction::Instruction;
+use bytecode::register::Register;
 
 impl Machine {
     pub(crate) fn get(&self, r: Register) -> u32

@@ -7,9 +7,9 @@ ghost use Rattle.std.specs.Finite.{nth};
 ghost use Rattle.std.specs.Options.{Cases as BySome};
 ghost use Rattle.vm.specs.Turn.{fresh, runs};
 ghost use Rattle.vm.specs.Ends.{asksIn, resumed};
-use crate::instruction::Instruction;
 use crate::machine::Machine;
 use crate::machine::action::IMPOSSIBLE;
+use bytecode::instruction::Instruction;
 use programs::programs::Action;
 
 // A turn has at most so many instructions.

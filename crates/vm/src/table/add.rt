@@ -4,10 +4,10 @@ ghost use mathlib.Core.List.{[]};
 ghost use mathlib.Core.Path.{_≡_};
 ghost use Rattle.vm.specs.Commands.{listedOf};
 ghost use Rattle.vm.specs.Adding.{Added};
-use crate::program::Program;
 use crate::table::Listed;
 use crate::table::MOST;
 use crate::table::Table;
+use bytecode::program::Program;
 use std::alloc::Global;
 
 // Why a command was not added.

@@ -5,9 +5,9 @@ ghost use mathlib.Core.Path.{_≡_};
 ghost use Rattle.std.specs.Options.{Cases as BySome, isSome};
 ghost use Rattle.std.specs.declared.option.Option.the-variants.{Some, None};
 ghost use Rattle.vm.specs.Commands.{codeOf, programOf};
-use crate::instruction::Instruction;
-use crate::program::Program;
 use crate::table::Table;
+use bytecode::instruction::Instruction;
+use bytecode::program::Program;
 
 impl Table {
     pub fn find(&self, command: u8) -> Option<&Program>

@@ -1,0 +1,4 @@
+pub mod Macs
+pub mod Sealing
+pub mod Opened
+pub mod Refusing

@@ -1,0 +1,4 @@
+pub mod Frames
+pub mod Ways
+pub mod Laws
+pub mod Sends

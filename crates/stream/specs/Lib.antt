@@ -1,0 +1,4 @@
+pub mod Streams
+pub mod Readers
+pub mod Receivers
+pub mod Promises
