@@ -1,0 +1,4 @@
+pub mod View
+pub mod Events
+pub mod Quiet
+pub mod Sight

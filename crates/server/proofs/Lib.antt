@@ -1,0 +1,9 @@
+pub mod Standing
+pub mod Flushing
+pub mod OneTurn
+pub mod Hearing
+pub mod Numbers
+pub mod Happening
+pub mod Finishing
+pub mod Calling
+pub mod Connecting

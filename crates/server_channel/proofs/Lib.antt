@@ -1,0 +1,5 @@
+pub mod Bytes
+pub mod Heard
+pub mod Due
+pub mod Reading
+pub mod Quiet
