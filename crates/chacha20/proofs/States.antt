@@ -1,5 +1,5 @@
 -- A state whose columns or diagonals are quarter rounds.
-use Rattle.std.proofs.Common.{◌≡◌, ℕ, suc, ◌+◌, sym, refl, ap, ◌∙◌, add-one}
+use Rattle.std.proofs.Common.{◌≡◌, ℕ, ◌+◌, sym, refl, ap, ◌∙◌, add-one}
 use Rattle.chacha20.specs.Block.{Columns, Diagonals, Doubles}
 use Rattle.chacha20.specs.Words.{Quarter}
 use Rattle.chacha20.specs.declared.block.State.{State}

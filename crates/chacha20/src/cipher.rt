@@ -6,7 +6,7 @@ ghost use Rattle.chacha20.specs.Lanes.{Keyed};
 
 use crate::block::{State, init};
 use crate::stream::{advanced, four_blocks, one_block};
-use bytes::put;
+use octets::put;
 
 #[derive(Clone, Copy)]
 pub enum Error {

@@ -1,4 +1,5 @@
 // ChaCha20 (RFC 8439).
+#![tactic(auto)]
 
 mod block;
 mod cipher;

@@ -1,6 +1,6 @@
 // The block function on four blocks at once, one in each lane.
 
-ghost use Rattle.std.specs.Prelude.{◌≡◌, ℕ, ◌+◌, ◌<◌, bit_xor, slice_index, slice_index_or};
+ghost use Rattle.std.specs.Prelude.{◌≡◌, ℕ, ◌+◌, ◌<◌, bit_xor, slice_index};
 ghost use Rattle.chacha20.specs.Block.{Add, Columns, Diagonals, Rounds};
 ghost use Rattle.chacha20.specs.Lanes.{Advance, Lane};
 ghost use Rattle.chacha20.specs.Words.{◌⊞◌, Quarter, ROTL};
@@ -39,7 +39,7 @@ fn mixed(a: u32x4, b: u32x4, n: u32) -> u32x4
 }
 
 fn sum(a: u32x4, b: u32x4) -> u32x4
-    ensures { (l : ℕ) → l < 4 → slice_index result l ≡ slice_index_or a l 0 ⊞ slice_index_or b l 0 }
+    ensures { (l : ℕ) → l < 4 → slice_index result l ≡ slice_index a l ⊞ slice_index b l }
 {
     a + b
 }

@@ -1,4 +1,5 @@
 // The functions as C calls them: false where a size is wrong or a call is refused, and then nothing is written.
+#![tactic(auto)]
 
 ghost use Rattle.std.specs.Prelude.{T, length, not, ◌≡◌, ◌+◌, ◌^◌, ◌≤◌, ◌<◌};
 ghost use Rattle.chacha20.specs.Cipher.{Blocks, ChaCha20};

@@ -1,5 +1,5 @@
 -- The two pads of a key.
-use Rattle.std.proofs.Common.{◌≡◌, ℕ, ◌+◌, ◌-◌, ◌<◌, ◌≤◌, Bool, true, false, cond, ◌≢◌, ◌⊎◌, List, ◌++◌, map, length, get_or, drop, set, replicate, sym, refl, ap, ◌∙◌, inl, inr, arith, below_more, le-leb}
+use Rattle.std.proofs.Common.{◌≡◌, ℕ, ◌+◌, ◌-◌, ◌<◌, ◌≤◌, Bool, cond, ◌≢◌, ◌⊎◌, List, ◌++◌, map, length, get_or, drop, set, replicate, sym, refl, ap, ◌∙◌, inl, inr, arith, below_more, le-leb}
 use borrow.Author.Tests.{lt-leb}
 use lib.Bits.{bit_xor}
 use Rattle.std.proofs.lemmas.List.{drop-replicate, ext_get_or, get_or-map, get_or-set_other, get_or-set_same, length-append, length-map, length-replicate, length-set}

@@ -1,4 +1,5 @@
 // HMAC with SHA-256 (RFC 2104).
+#![tactic(auto)]
 
 ghost use Rattle.std.specs.Int.Bits.{bit_xor};
 ghost use Rattle.std.specs.Prelude.{◌≡◌, ℕ, ◌+◌, ◌^◌, ◌<◌, ◌≤◌, List, [], ◌++◌, length, replicate, MatchResult};
@@ -6,7 +7,7 @@ ghost use Rattle.sha256.specs.Stream.{Holds};
 ghost use Rattle.hmac.specs.Calls.{Prepared, Tags, Takes, Updated, Whole};
 ghost use Rattle.hmac.specs.Hmac.{HMAC, Masked, Padded, Short};
 
-use bytes::put;
+use octets::put;
 use sha256::{Error, Sha256};
 
 // A key that is prepared once, and serves any number of messages.

@@ -1,5 +1,5 @@
 -- The bytes of a hash value, four words at a time.
-use Rattle.std.proofs.Common.{◌≡◌, ℕ, ◌+◌, List, [], ◌∷◌, ◌++◌, length, get_or, take, drop, replicate, sym, refl, ap, ◌∙◌}
+use Rattle.std.proofs.Common.{◌≡◌, ℕ, ◌+◌, List, [], ◌∷◌, ◌++◌, length, get_or, take, drop, replicate, ◌∙◌}
 use Rattle.sha256.specs.Message.{Bytes32, Output}
 use Rattle.sha256.specs.declared.rounds.State.{State}
 

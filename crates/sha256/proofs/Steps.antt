@@ -1,5 +1,5 @@
 -- Sixteen turns, and sixteen words of the schedule, step by step.
-use Rattle.std.proofs.Common.{◌≡◌, ℕ, zero, suc, ◌+◌, List, [], ◌∷◌, ◌++◌, get_or, drop, sym, refl, ap, ◌∙◌}
+use Rattle.std.proofs.Common.{◌≡◌, ℕ, suc, ◌+◌, List, [], ◌∷◌, ◌++◌, get_or, drop, refl, ap, ◌∙◌}
 use Rattle.sha256.specs.Rounds.{Extend, Round, Rounds, Schedule}
 use Rattle.sha256.specs.declared.rounds.State.{State}
 

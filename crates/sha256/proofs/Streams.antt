@@ -1,9 +1,7 @@
 -- The hash value after the blocks of a message that comes in parts.
-use Rattle.std.proofs.Common.{◌≡◌, ℕ, zero, suc, ◌+◌, ◌-◌, ◌*◌, ◌/◌, ◌%◌, ◌^◌, ◌<◌, ◌≤◌, List, [], ◌∷◌, ◌++◌, length, get_or, take, drop, sym, refl, ap, ◌∙◌, add-zero, add_assoc, add-suc, add-one, arith}
-use Rattle.std.proofs.lemmas.List.{append_assoc, append-nil, drop_all, drop-append-le, drop_at, drop-drop, length-append, length-drop, length-take, length-take-le, take_all, take-append-drop, take-append-le}
+use Rattle.std.proofs.Common.{◌≡◌, ℕ, zero, suc, ◌+◌, ◌*◌, ◌/◌, ◌≤◌, List, ◌++◌, length, take, drop, sym, refl, ap, ◌∙◌, add-zero, add-suc, add-one, arith}
+use Rattle.std.proofs.lemmas.List.{append_assoc, drop-append-le, drop_at, drop-drop, length-append, length-drop, length-take-le, take-append-drop, take-append-le}
 use Rattle.sha256.specs.Message.{After, Output, Padding, SHA256, Start, Words}
-use Rattle.sha256.specs.Stream.{Holds}
-use Rattle.sha256.specs.declared.stream.Sha256.{Sha256}
 use Rattle.sha256.specs.Rounds.{Compress}
 use Rattle.sha256.specs.declared.rounds.State.{State}
 

@@ -1,5 +1,5 @@
 -- The 64 turns of a block, sixteen at a time, over a window of the schedule.
-use Rattle.std.proofs.Common.{◌≡◌, ℕ, zero, suc, ◌+◌, ◌-◌, ◌<◌, ◌≤◌, List, [], ◌∷◌, ◌++◌, length, get_or, take, drop, sym, refl, ap, ◌∙◌, subst, add-zero, add_assoc, add-suc, arith}
+use Rattle.std.proofs.Common.{◌≡◌, ℕ, zero, suc, ◌+◌, ◌-◌, ◌≤◌, List, [], ◌∷◌, ◌++◌, length, get_or, take, drop, sym, refl, ap, ◌∙◌, add-zero, add_assoc, add-suc, arith}
 use Rattle.std.proofs.lemmas.List.{length-append, get_or-drop, get_or-take, drop-append-le, take-append-le, take_all, drop-drop, length-drop}
 use Rattle.sha256.specs.Constants.{KS}
 use Rattle.sha256.specs.Rounds.{Extend, Round, Rounds, Schedule}

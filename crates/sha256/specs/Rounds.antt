@@ -1,5 +1,5 @@
 -- The block computation: RFC 6234, section 6.2.
-use Rattle.std.specs.Prelude.{ℕ, zero, suc, ◌+◌, ◌*◌, List, [], ◌∷◌, ◌++◌, slice_index}
+use Rattle.std.specs.Prelude.{ℕ, zero, suc, ◌+◌, List, [], ◌∷◌, ◌++◌, slice_index}
 use Rattle.sha256.specs.Words.{◌⊞◌, CH, MAJ, BSIG0, BSIG1, SSIG0, SSIG1}
 use Rattle.sha256.specs.Constants.{KS}
 use Rattle.sha256.specs.declared.rounds.State.{State}

@@ -1,6 +1,6 @@
 -- What a hash under way stands for, and what its calls do.
 use Rattle.std.specs.Prelude.{◌≡◌, ℕ, ◌+◌, ◌*◌, ◌/◌, ◌%◌, ◌^◌, ◌<◌, ◌≤◌, List, ◌++◌, length, take, drop, Result, MatchResult}
-use Rattle.sha256.specs.Message.{After, SHA256, Start}
+use Rattle.sha256.specs.Message.{After, Start}
 use Rattle.sha256.specs.declared.stream.Sha256.{Sha256}
 use Rattle.sha256.specs.declared.stream.Error.{Error}
 

@@ -5,7 +5,7 @@ ghost use Rattle.sha256.specs.Message.{After, Be32, Bytes32, Output, Words};
 ghost use Rattle.sha256.specs.Rounds.{Listed};
 
 use crate::rounds::{State, Window, compress};
-use bytes::put;
+use octets::put;
 
 fn be32(b: &[u8], i: usize) -> u32
     requires { i + 4 ≤ length b.now }

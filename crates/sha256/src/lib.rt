@@ -1,4 +1,5 @@
 // SHA-256 (RFC 6234).
+#![tactic(auto)]
 
 mod blocks;
 mod rounds;

@@ -7,7 +7,7 @@ ghost use Rattle.sha256.specs.Stream.{Holds, Updated};
 use crate::blocks::blocks;
 use crate::rounds::State;
 use crate::tail::finished;
-use bytes::put;
+use octets::put;
 
 const START: State = State {
     a: 0x6a09_e667,

@@ -5,7 +5,7 @@ ghost use Rattle.sha256.specs.Message.{After, Output, Padding, PaddingFills};
 
 use crate::blocks::{blocks, output};
 use crate::rounds::State;
-use bytes::put;
+use octets::put;
 
 // `rest`, a bit 1, and zeros.
 fn marked(rest: &[u8]) -> [u8; 128]

@@ -1,4 +1,5 @@
 // Runs the published vectors of RFC 6234, 4231 and 8439, and a table of lengths.
+#![tactic(auto)]
 
 mod hashes;
 mod hex;

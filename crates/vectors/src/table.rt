@@ -16,7 +16,7 @@ fn digest(part: &[u8], cut: usize) -> Option<[u8; 32]>
     parts.update(&part[0..cut]).ok()?;
     parts.update(&part[cut..part.len()]).ok()?;
     let whole = hash(part).ok()?;
-    if bytes::equal(&whole, &parts.finish()) {
+    if octets::equal(&whole, &parts.finish()) {
         Some(whole)
     } else {
         None
@@ -32,7 +32,7 @@ fn tag(part: &[u8], cut: usize) -> Option<[u8; 32]>
     parts.update(&part[0..cut]).ok()?;
     parts.update(&part[cut..part.len()]).ok()?;
     let whole = key.tag(part).ok()?;
-    if bytes::equal(&whole, &parts.finish()) {
+    if octets::equal(&whole, &parts.finish()) {
         Some(whole)
     } else {
         None

@@ -1,4 +1,4 @@
-use Rattle.std.proofs.Common.{◌≡◌, ℕ, refl, ap, ◌∙◌, arith}
+use Rattle.std.proofs.Common.{ℕ, ap, ◌∙◌, arith}
 use Rattle.chacha20.specs.Block.{Add, Doubles, Rounds}
 use Rattle.chacha20.specs.declared.block.State.{State}
 use Rattle.chacha20.proofs.States.{doubles-more, doubles-none}
@@ -9,7 +9,7 @@ loop-i-init c = doubles-none c.args.s
 
 pub loop-i-preserved : goal.loop-i-preserved
 loop-i-preserved c =
-    doubles-more c.args.s c.loop-i.-i c.loop-i.t c.columns.result c.diagonals-t.result c.loop-i.invariant
+    doubles-more c.args.s c.loop-i._i c.loop-i.t c.columns.result c.diagonals-t.result c.loop-i.invariant
     c.columns.ensures
     c.diagonals-t.ensures
 

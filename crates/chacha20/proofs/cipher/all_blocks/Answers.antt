@@ -10,13 +10,13 @@ loop-i-init c = xored-none c.args.text.now (Keyed c.args.s) 0
 
 pub loop-i-preserved : goal.loop-i-preserved
 loop-i-preserved c =
-    blocks_more c.args.text.now c.loop-i.text c.four-blocks.new.text c.args.s c.advanced.result
+    blocks_more c.args.text.now c.loop-i.text c.four_blocks.new.text c.args.s c.advanced.result
     c.loop-i.i
     _
     refl
     c.advanced.ensures
     c.loop-i.invariant
-    c.four-blocks.ensures
+    c.four_blocks.ensures
 
 pub returns : goal.returns
 returns c =
@@ -24,8 +24,8 @@ returns c =
     let e : c.loop-i.i ≡ n = omega arith in
     let inv : Xored c.args.text.now (Keyed c.args.s) 0 (256 * n) c.loop-i.text =
     subst (λ (k : ℕ). Xored c.args.text.now (Keyed c.args.s) 0 (256 * k) c.loop-i.text) e c.loop-i.invariant in
-    blocks-all c.args.text.now c.loop-i.text c.last-blocks.new.text c.args.s c.advanced-2.result n _ refl
+    blocks-all c.args.text.now c.loop-i.text c.last_blocks.new.text c.args.s c.advanced-2.result n _ refl
     c.advanced-2.ensures
     (omega arith)
     inv
-    c.last-blocks.ensures
+    c.last_blocks.ensures

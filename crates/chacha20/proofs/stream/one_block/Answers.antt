@@ -5,6 +5,6 @@ use Rattle.chacha20.proofs.stream.one_block.Goals as goal
 pub returns : goal.returns
 returns c =
     let f : c.args.s.x12 < 2 ^ 32 = omega arith in
-    keyed-one c.args.s c.rounds.result c.args.text.now c.xor-state.new.text c.args.at f
+    keyed-one c.args.s c.rounds.result c.args.text.now c.xor_state.new.text c.args.at f
     c.rounds.ensures
-    c.xor-state.ensures
+    c.xor_state.ensures

@@ -3,8 +3,8 @@ use Rattle.chacha20.proofs.xor.xor_block.Goals as goal
 
 pub returns : goal.returns
 returns c =
-    xored-block c.args.text.now c.xor-words.new.text c.xor-words-2.new.text c.xor-words-3.new.text
-    c.xor-words-4.new.text
+    xored-block c.args.text.now c.xor_words.new.text c.xor_words-2.new.text c.xor_words-3.new.text
+    c.xor_words-4.new.text
     c.args.a
     c.args.b
     c.args.c
@@ -13,7 +13,7 @@ returns c =
     c.fits-a.0
     c.fits-b.0
     c.fits-c.0
-    c.xor-words.ensures
-    c.xor-words-2.ensures
-    c.xor-words-3.ensures
-    c.xor-words-4.ensures
+    c.xor_words.ensures
+    c.xor_words-2.ensures
+    c.xor_words-3.ensures
+    c.xor_words-4.ensures

@@ -12,16 +12,16 @@ returns c =
     (c.transposed.result.2 ++ (c.transposed-2.result.2 ++ (c.transposed-3.result.2 ++ c.transposed-4.result.2)))
     (c.transposed.result.3 ++ (c.transposed-2.result.3 ++ (c.transposed-3.result.3 ++ c.transposed-4.result.3)))
     c.args.text.now
-    c.xor-block.new.text
-    c.xor-block-2.new.text
-    c.xor-block-3.new.text
-    c.xor-block-4.new.text
+    c.xor_block.new.text
+    c.xor_block-2.new.text
+    c.xor_block-3.new.text
+    c.xor_block-4.new.text
     c.args.at
-    (λ i. c.transposed.ensures.0 i ++ (c.transposed-2.ensures.0 i ++ (c.transposed-3.ensures.0 i ++ (c.transposed-4.ensures.0 i))))
-    (λ i. c.transposed.ensures.1 i ++ (c.transposed-2.ensures.1 i ++ (c.transposed-3.ensures.1 i ++ (c.transposed-4.ensures.1 i))))
-    (λ i. c.transposed.ensures.2 i ++ (c.transposed-2.ensures.2 i ++ (c.transposed-3.ensures.2 i ++ (c.transposed-4.ensures.2 i))))
-    (λ i. c.transposed.ensures.3 i ++ (c.transposed-2.ensures.3 i ++ (c.transposed-3.ensures.3 i ++ (c.transposed-4.ensures.3 i))))
-    c.xor-block.ensures
-    c.xor-block-2.ensures
-    c.xor-block-3.ensures
-    c.xor-block-4.ensures
+    (λ i. c.transposed.ensures.first i ++ (c.transposed-2.ensures.first i ++ (c.transposed-3.ensures.first i ++ (c.transposed-4.ensures.first i))))
+    (λ i. c.transposed.ensures.second i ++ (c.transposed-2.ensures.second i ++ (c.transposed-3.ensures.second i ++ (c.transposed-4.ensures.second i))))
+    (λ i. c.transposed.ensures.third i ++ (c.transposed-2.ensures.third i ++ (c.transposed-3.ensures.third i ++ (c.transposed-4.ensures.third i))))
+    (λ i. c.transposed.ensures.fourth i ++ (c.transposed-2.ensures.fourth i ++ (c.transposed-3.ensures.fourth i ++ (c.transposed-4.ensures.fourth i))))
+    c.xor_block.ensures
+    c.xor_block-2.ensures
+    c.xor_block-3.ensures
+    c.xor_block-4.ensures

@@ -1,7 +1,6 @@
-use Rattle.std.proofs.Common.{◌≡◌, ℕ, ◌+◌, ◌*◌, ◌≤◌, List, drop, refl, ap, ◌∙◌, subst, arith}
+use Rattle.std.proofs.Common.{◌≡◌, ℕ, ◌+◌, ◌*◌, List, drop, refl, ap, ◌∙◌, arith}
 use Rattle.sha256.specs.Constants.{KS}
 use Rattle.sha256.specs.Rounds.{Add, Compress, Listed, Rounds, Schedule}
-use Rattle.sha256.specs.declared.rounds.State.{State}
 use Rattle.sha256.proofs.Turns.{turns_more, turns-none, window_more}
 use Rattle.sha256.proofs.rounds.compress.Goals as goal
 
@@ -33,7 +32,7 @@ returns c =
     let i : 16 * c.loop-i.i ≡ 48 = omega arith in
     c.add.ensures
     ∙ ap (Add c.args.h)
-    (turns_more m c.args.h 48 16 (Listed c.loop-i.w) c.loop-i.s c.last-turns.result refl (omega arith) refl
+    (turns_more m c.args.h 48 16 (Listed c.loop-i.w) c.loop-i.s c.last_turns.result refl (omega arith) refl
     (c.loop-i.invariant.0 ∙ ap (Rounds KS (Schedule m 48) c.args.h) i)
     (c.loop-i.invariant.1 ∙ ap (λ (k : ℕ). drop k (Schedule m k)) i)
-    c.last-turns.ensures)
+    c.last_turns.ensures)

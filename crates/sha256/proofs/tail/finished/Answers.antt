@@ -7,12 +7,12 @@ pub returns : goal.returns
 returns c =
     c.output.ensures ∙ ap Output c.blocks-2.ensures
     ∙ ap (λ (p : List ℕ). Output (After c.args.s p (length p / 64)))
-    (padded-is c.args.rest.now c.args.total c.padded-end-end.result _ c.marked-t.result
-    c.to-be-bytes.result
+    (padded-is c.args.rest.now c.args.total c.padded_end-end.result _ c.marked-t.result
+    c.to_be_bytes.result
     c.put.new.out
     c.requires
     c.marked-t.ensures
-    c.padded-end-end.ensures
-    c.to-be-bytes.ensures
+    c.padded_end-end.ensures
+    c.to_be_bytes.ensures
     c.put.ensures
     (omega arith))

@@ -1,4 +1,4 @@
-use Rattle.std.proofs.Common.{◌≡◌, ℕ, ◌-◌, ◌/◌, ◌%◌, List, ◌++◌, length, take, sym, ap, ◌∙◌, arith}
+use Rattle.std.proofs.Common.{◌≡◌, ℕ, ◌-◌, ◌/◌, ◌%◌, List, ◌++◌, length, take, ap, ◌∙◌, arith}
 use Rattle.sha256.specs.Message.{After, Output, Padding}
 use Rattle.sha256.proofs.Streams.{digest-is}
 use Rattle.sha256.proofs.stream.Sha256.finish.Goals as goal

@@ -1,4 +1,5 @@
 // Slices of bytes: a copy into a part, and a comparison that reads all.
+#![tactic(auto)]
 
 ghost use Rattle.std.specs.Prelude.{◌≡◌, ◌+◌, ◌≤◌, T, ◌++◌, length, take, drop};
 

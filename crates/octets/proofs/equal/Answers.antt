@@ -1,8 +1,8 @@
 use Rattle.std.proofs.Common.{◌≡◌, ℕ, T, eqb, List, get_or, sym, ap, subst, arith, eqb→eq}
 use lib.Dec.{eqb_refl}
 use Rattle.std.proofs.lemmas.List.{ext_get_or}
-use Rattle.bytes.proofs.Same.{below_next, below-start}
-use Rattle.bytes.proofs.equal.Goals as goal
+use Rattle.octets.proofs.Same.{below_next, below-start}
+use Rattle.octets.proofs.equal.Goals as goal
 
 pub loop-i-init : goal.loop-i-init
 loop-i-init c = below-start c.args.a.now c.args.b.now

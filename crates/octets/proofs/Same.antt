@@ -1,5 +1,5 @@
 -- The bits in which two lists differ.
-use Rattle.std.proofs.Common.{◌≡◌, ℕ, ◌+◌, ◌<◌, List, get_or, sym, refl, ap, ◌∙◌, arith, below_none, below_more}
+use Rattle.std.proofs.Common.{◌≡◌, ℕ, ◌+◌, ◌<◌, List, get_or, refl, ap, ◌∙◌, arith, below_more}
 use lib.Bits.{and_le_l, and_le_r, bit_or, bit_xor, or_add_and, or_zero_l, xor_add_and, xor_self}
 
 -- d is 0 where, and only where, a and b are the same below n
