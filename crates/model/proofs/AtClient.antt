@@ -1,14 +1,13 @@
 -- One channel at what the client does: its flush, the user's commands, and replies that arrive. Assumes nothing.
-use Rattle.std.proofs.Common.{◌≡◌, ℕ, zero, suc, ◌+◌, ◌-◌, ◌<◌, ◌≤◌, min, Bool, true, false, cond, not, ◌&&◌, ◌||◌, eqb, ltb, ◌⊎◌, List, [], ◌∷◌, ◌++◌, length, take, drop, Some, None, Ok, Err, Option, Result, sym, refl, ap, ◌∙◌, subst, inl, inr, append_assoc, append-nil, zero-add, arith}
-use Rattle.std.proofs.lemmas.List.{length-append}
-use Rattle.std.proofs.lemmas.Bool.{eqb-true, and_parts, true≢false, le-ltb, cond-false, cond-true}
+use Rattle.std.proofs.Common.{◌≡◌, ℕ, zero, suc, ◌+◌, ◌-◌, ◌<◌, ◌≤◌, Bool, true, false, cond, not, ◌&&◌, ◌||◌, eqb, List, [], ◌∷◌, ◌++◌, length, Some, None, Option, sym, refl, ap, ◌∙◌, subst, inl, append-nil, arith}
+use Rattle.std.proofs.lemmas.Bool.{eqb-true, and_parts, true≢false}
 use Rattle.std.specs.Option.{option_map}
-use Rattle.model.specs.Messages.{Rules, Fair, Request, Run, Input, OutputCredit, Eof, Close, Reply, Runs, Output, InputCredit, Exit, Fault, ready, parts, is_some}
-use Rattle.model.specs.Client.{ClientChannel, Phase, Asked, Running, Refused, Closed, runs, holds, is_held, entered, finished, took_more, answered, got_more, may_more, told_exit, hear_asked, hear_running, hear_in, hear, goes, eof_now, close_now, inputs, requests, flushed, flushed_running, new_channel}
+use Rattle.model.specs.Messages.{Rules, Fair, Request, Run, OutputCredit, Eof, Close, Reply, ready, parts, is_some}
+use Rattle.model.specs.Client.{ClientChannel, Phase, Asked, Running, Refused, Closed, runs, holds, is_held, entered, finished, took_more, goes, eof_now, close_now, inputs, requests, flushed, flushed_running, new_channel}
 use Rattle.model.specs.Server.{ServerChannel}
 use Rattle.model.proofs.Ways.{those}
-use Rattle.model.proofs.Flow.{Cell, Piece, Last, bytes, lasts, Flow, pieces, last_of, goes_out, last_now, flow-send, flow-grow, flow-end, flow-piece, flow-last, flow-open, flow-count, flow-said, ready-length}
-use Rattle.model.proofs.Local.{cells_in, cells_out, credits_up, credits_back, has_close, Begun, Answered, Window, eofs, Fresh, AloneIn, AskedOk, RunningOk, ClosedOk, InPhase, Pair, Local, cells_in-append, credits_up-append, has_close-append, begun-append}
+use Rattle.model.proofs.Flow.{Cell, Piece, Last, Flow, pieces, flow-send, flow-grow, flow-end, ready-length}
+use Rattle.model.proofs.Local.{cells_in, credits_up, has_close, Begun, Window, eofs, Fresh, AloneIn, RunningOk, InPhase, Pair, Local, cells_in-append, credits_up-append, has_close-append, begun-append}
 
 -- What the flush of a channel sends, by what is known of a way.
 module _ (e c : Bool) where

@@ -1,15 +1,14 @@
 -- One channel at what the server does: its flush, a program's turn, and the cut. Assumes nothing.
-use Rattle.std.proofs.Common.{◌≡◌, ℕ, zero, suc, ◌+◌, ◌-◌, ◌<◌, ◌≤◌, min, Bool, true, false, cond, not, ◌&&◌, ◌||◌, eqb, ltb, ◌⊎◌, List, [], ◌∷◌, ◌++◌, length, take, drop, Some, None, Option, sym, refl, ap, ◌∙◌, subst, inl, inr, append_assoc, append-nil, arith}
-use Rattle.std.proofs.lemmas.List.{length-append, nil_from_length}
+use Rattle.std.proofs.Common.{◌≡◌, ℕ, ◌+◌, Bool, true, false, cond, not, ◌&&◌, ◌||◌, eqb, List, [], ◌∷◌, ◌++◌, length, Some, None, Option, sym, refl, ap, ◌∙◌, subst, append-nil, arith}
+use Rattle.std.proofs.lemmas.List.{nil_from_length}
 use Rattle.std.proofs.lemmas.Bool.{true≢false}
 use Rattle.std.specs.Option.{option_map}
-use Rattle.model.specs.Messages.{Rules, Fair, Request, Reply, Runs, Output, InputCredit, Exit, ready, parts, is_some}
+use Rattle.model.specs.Messages.{Rules, Fair, Request, Reply, Exit, parts, is_some}
 use Rattle.model.specs.Client.{ClientChannel, Phase, Asked, Running, Refused, Closed}
-use Rattle.model.specs.Server.{ServerChannel, read_more, wrote_more, ended, counted, forgot, goes_back, exit_now, exit_reply, outputs, replies, sent_kept, sent_back}
+use Rattle.model.specs.Server.{ServerChannel, goes_back, exit_now, exit_reply, outputs, replies, sent_kept, sent_back}
 use Rattle.model.proofs.Ways.{those}
-use Rattle.model.proofs.Flow.{Cell, Piece, Last, bytes, lasts, Flow, pieces, last_of, goes_out, last_now, flow-send, flow-grow, flow-end, flow-unsaid, flow-said, ready-length, parts_none, unsaid-lasts}
-use Rattle.model.proofs.Local.{cells_in, cells_out, credits_up, credits_back, has_close, Begun, Answered, Window, eofs, Fresh, AloneIn, AskedOk, RunningOk, ClosedOk, InPhase, Pair, Local, cells_out-append, credits_back-append, answered-append}
-use Rattle.model.proofs.HearsClient.{not-nil}
+use Rattle.model.proofs.Flow.{Cell, Piece, lasts, Flow, pieces, last_of, last_now, flow-send, flow-said, ready-length, parts_none, unsaid-lasts}
+use Rattle.model.proofs.Local.{cells_out, credits_back, Answered, Window, InPhase, Pair, Local, cells_out-append, credits_back-append, answered-append}
 
 -- What the flush of a channel sends, by what is known of a way.
 cells-outputs : (ps : List (List ℕ)) (b : Bool) (e : Option ℕ) → cells_out (outputs ps ++ exit_reply b e) ≡ pieces ps ++ cond (is_some e && b) (last_of e) []

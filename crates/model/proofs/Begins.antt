@@ -8,7 +8,7 @@ use Rattle.std.specs.Option.{option_map}
 use Rattle.model.specs.Keyed.{find, change, numbers, above, Rising, gather, each}
 use Rattle.model.specs.Messages.{Rules, Fair, Request, Run, Reply, Runs, InputCredit, ToServer, For, ToClient, Of, Programs, Did, did, is_some}
 use Rattle.model.specs.Client.{Client, ClientChannel, Phase, Asked, Running, Refused, Closed, client, number_of, channel_at, is_held, holds, new_channel, requests, requests_of, runs, flushed, flushed_running, flush, hear, hear_in, heard, answered, take_in, with_channels, Start, Refusal, BadNumber, TooManyHeld, Down, refusal, unless, bad_number, held_count, obey, obey_unless}
-use Rattle.model.specs.Server.{Server, ServerChannel, server, number_at, channel_of, is_kept, replies_of, sent_back, flush_back, with_all, forget_all, start, runs_now, used_now, bad_start, may_run, kept_count, new_program, whom, serve}
+use Rattle.model.specs.Server.{Server, ServerChannel, server, number_at, channel_of, is_kept, replies_of, sent_back, flush_back, with_all, forget_all, runs_now, used_now, bad_start, may_run, kept_count, new_program, whom, serve}
 use Rattle.model.specs.World.{World, Event, User, ArriveThere, ArriveHere, after, step, by_server, by_client}
 use Rattle.model.specs.Promises.{Up, AtClient}
 use Rattle.model.specs.Progress.{All, is_arrival}

@@ -1,20 +1,20 @@
 -- What holds stays so at what the client does. Assumes nothing.
-use Rattle.std.proofs.Common.{◌≡◌, ℕ, zero, suc, ◌+◌, ◌-◌, ◌<◌, ◌≤◌, min, Bool, true, false, cond, not, ◌&&◌, ◌||◌, eqb, ltb, List, [], ◌∷◌, ◌++◌, length, Some, None, Ok, Err, Option, Result, sym, refl, ap, ◌∙◌, subst, append_assoc, append-nil, arith}
-use Rattle.std.proofs.lemmas.Bool.{eqb-true, eq-eqb, true≢false, not-false, not-true, or_parts, ltb-false, or_cases, cond-true, cond-false}
+use Rattle.std.proofs.Common.{◌≡◌, ℕ, zero, suc, ◌-◌, ◌≤◌, min, Bool, true, false, cond, not, ◌||◌, eqb, ltb, List, [], ◌∷◌, ◌++◌, length, Some, None, Option, Result, sym, refl, ap, ◌∙◌, subst, append_assoc, append-nil, arith}
+use Rattle.std.proofs.lemmas.Bool.{eqb-true, true≢false, not-false, or_parts, ltb-false, or_cases}
 use Rattle.std.proofs.lemmas.Bool.Decides.{nat_tests}
 use Rattle.std.specs.Option.{option_map}
-use Rattle.model.specs.Keyed.{find, change, numbers, is_in, above, Rising}
+use Rattle.model.specs.Keyed.{change, numbers, is_in, above, Rising}
 use Rattle.model.specs.Messages.{Rules, Fair, Request, Run, Input, OutputCredit, Eof, Close, Reply, ToServer, Login, Tick, For, ToClient, Accepted, Tock, Of, Did, did}
-use Rattle.model.specs.Client.{Client, ClientChannel, client, number_of, channel_at, Command, LogIn, Start, Enter, Finish, Take, Refusal, BadNumber, TooManyHeld, NotHeld, AfterEof, TooMuch, Down, unless, bad_number, held_count, found_held, found_eof, found_full, refusal, entered, finished, took_more, takeable, output_credit, with_channels, new_channel, command, obey_unless, obey, hear, heard, receive, take_in, is_held, cut_client, flush}
-use Rattle.model.specs.Server.{Server, ServerChannel, number_at, channel_of}
+use Rattle.model.specs.Client.{Client, ClientChannel, client, number_of, channel_at, Command, LogIn, Start, Enter, Finish, Take, Refusal, BadNumber, TooManyHeld, NotHeld, AfterEof, TooMuch, Down, unless, bad_number, held_count, found_held, found_eof, found_full, refusal, entered, finished, took_more, takeable, output_credit, with_channels, new_channel, command, obey_unless, obey, hear, heard, take_in, cut_client, flush}
+use Rattle.model.specs.Server.{Server, channel_of}
 use Rattle.model.proofs.Finds.{eqb_same, find-append, find_none, numbers-append, above-not-in, rising-append, in-append, find-key}
-use Rattle.model.proofs.Ways.{asks, tells-of, asks_append, tells-append}
+use Rattle.model.proofs.Ways.{asks, tells-of, asks_append}
 use Rattle.model.proofs.Local.{Local}
 use Rattle.model.proofs.Inv.{starts, InvOf}
 use Rattle.model.proofs.AtClient.{enter-local, finish-local, start-local, take-local, credit_of}
 use Rattle.model.proofs.HearsClient.{hear-local, hear-known}
 use Rattle.model.proofs.InTurn.{cut-here}
-use Rattle.model.proofs.Known.{Known, IdleThere, IdleHere, starts-append, whole, parts-of, client-flush, client-changes, by_number}
+use Rattle.model.proofs.Known.{Known, starts-append, parts-of, client-flush, client-changes}
 
 pub unless-none : (b : Bool) (f : Refusal) (rest : Option Refusal) → unless b f rest ≡ None → (b ≡ false) × (rest ≡ None)
 unless-none true f rest e = absurd (let z : ◌≡◌ {A = ℕ} 0 1 = cc in omega arith)

@@ -1,20 +1,18 @@
 -- What holds stays so when a message arrives at the server. Assumes nothing.
-use Rattle.std.proofs.Common.{◌≡◌, ℕ, zero, suc, ◌+◌, ◌-◌, ◌<◌, ◌≤◌, min, Bool, true, false, cond, not, ◌&&◌, ◌||◌, eqb, ltb, leb, ◌⊎◌, List, [], ◌∷◌, ◌++◌, length, Some, None, Ok, Err, Option, Result, sym, refl, ap, ◌∙◌, subst, inl, inr, append_assoc, append-nil, arith}
-use Rattle.std.proofs.lemmas.Bool.{eqb-true, eq-eqb, true≢false, not-true, not-false, or_parts, or_from, or_cases, le-ltb, lt-ltb, and_parts, and_from, or_right, not_from_true}
-use Rattle.std.proofs.lemmas.Bool.Decides.{nat_tests}
+use Rattle.std.proofs.Common.{◌≡◌, ℕ, suc, ◌<◌, ◌≤◌, Bool, true, false, cond, not, ◌||◌, eqb, ltb, ◌⊎◌, List, [], ◌∷◌, ◌++◌, Some, None, Option, Result, sym, refl, ap, ◌∙◌, subst, inl, inr, append_assoc, append-nil, arith}
+use Rattle.std.proofs.lemmas.Bool.{eqb-true, or_from, or_cases, le-ltb, lt-ltb, and_from, or_right, not_from_true}
 use Rattle.std.specs.Option.{option_map}
-use Rattle.model.specs.Keyed.{find, change, numbers, is_in, above, Rising}
-use Rattle.model.specs.Messages.{Rules, Fair, Request, Run, Input, OutputCredit, Eof, Close, Reply, Runs, InputCredit, ToServer, Login, Tick, For, ToClient, Accepted, Tock, Of, Does, Reads, Writes, Ends, GoesOn, Programs, Did, did, is_some, Fault}
-use Rattle.model.specs.Client.{Client, ClientChannel, number_of, channel_at, Phase, Asked}
-use Rattle.model.specs.Server.{Server, ServerChannel, server, number_at, channel_of, is_live, cut_server, login_by, new_program, bad_start, runs_now, used_now, whom, start, hear_at, pass_to, passed, is_refused, pass, for_channel, receive_by, serve, Turned, turned, ends, reads, writes, is_part, portion, doing, drained_by, drained, turn_in, input_credit, took_turn, turn_of, turn, lose, flush_back, with_all}
-use Rattle.model.proofs.Finds.{eqb_same, find-append, find_none, numbers-append, above-not-in, above_in, rising-append, rising-above, in-append, in-middle, find-key}
-use Rattle.model.proofs.Ways.{asks, tells-of, asks_append, tells-append}
+use Rattle.model.specs.Keyed.{change, numbers, is_in, above, Rising}
+use Rattle.model.specs.Messages.{Rules, Fair, Request, Run, Input, OutputCredit, Eof, Close, Reply, Runs, InputCredit, ToServer, Login, Tick, For, ToClient, Accepted, Of, Programs, Did, did, Fault}
+use Rattle.model.specs.Client.{Client, ClientChannel, number_of, channel_at, Asked}
+use Rattle.model.specs.Server.{Server, ServerChannel, server, number_at, channel_of, login_by, new_program, bad_start, runs_now, used_now, whom, hear_at, pass_to, passed, is_refused, pass, for_channel, serve, flush_back, with_all}
+use Rattle.model.proofs.Finds.{eqb_same, find-append, numbers-append, above-not-in, above_in, rising-append, rising-above, in-append, in-middle, find-key}
+use Rattle.model.proofs.Ways.{asks, tells-of, tells-append}
 use Rattle.model.proofs.Local.{Local, Fresh, Begun}
 use Rattle.model.proofs.Inv.{starts, InvOf}
 use Rattle.model.proofs.HearsServer.{pass-local, only-start, runs-local, refused-local}
-use Rattle.model.proofs.InTurn.{turn-local, credit_back, cut-there}
-use Rattle.model.proofs.Known.{Known, IdleThere, IdleHere, whole, parts-of, server-flush, server-changes}
-use Rattle.model.proofs.HearsClient.{not-nil}
+use Rattle.model.proofs.InTurn.{cut-there}
+use Rattle.model.proofs.Known.{Known, parts-of, server-flush, server-changes}
 
 above_from : (t : ℕ) (xs : List ℕ) → ((n : ℕ) → is_in n xs ≡ true → n < t) → above t xs ≡ true
 unfolding above is_in

@@ -1,19 +1,17 @@
 -- What holds stays so at what the server does. Assumes nothing.
-use Rattle.std.proofs.Common.{◌≡◌, ℕ, zero, suc, ◌+◌, ◌-◌, ◌<◌, ◌≤◌, min, Bool, true, false, cond, not, ◌&&◌, ◌||◌, eqb, ltb, leb, ◌⊎◌, List, [], ◌∷◌, ◌++◌, length, Some, None, Ok, Err, Option, Result, sym, refl, ap, ◌∙◌, subst, inl, inr, append_assoc, append-nil, arith}
-use Rattle.std.proofs.lemmas.Bool.{eqb-true, eq-eqb, true≢false, not-true, not-false, or_parts, or_from, or_cases, le-ltb, and_parts, not_from_true}
-use Rattle.std.proofs.lemmas.Bool.Decides.{nat_tests}
+use Rattle.std.proofs.Common.{◌≡◌, ℕ, zero, suc, Bool, true, false, cond, not, ◌&&◌, ◌||◌, eqb, ltb, leb, List, [], ◌∷◌, ◌++◌, length, Some, None, Option, sym, refl, ap, ◌∙◌, subst, append-nil}
+use Rattle.std.proofs.lemmas.Bool.{true≢false}
 use Rattle.std.specs.Option.{option_map}
-use Rattle.model.specs.Keyed.{find, change, numbers, is_in, above, Rising}
-use Rattle.model.specs.Messages.{Rules, Fair, Request, Run, Input, OutputCredit, Eof, Close, Reply, Runs, InputCredit, ToServer, Login, Tick, For, ToClient, Accepted, Tock, Of, Does, Reads, Writes, Ends, GoesOn, Programs, Did, did, is_some, Fault}
-use Rattle.model.specs.Client.{Client, ClientChannel, number_of, channel_at}
-use Rattle.model.specs.Server.{Server, ServerChannel, server, number_at, channel_of, is_live, cut_server, login_by, new_program, bad_start, runs_now, used_now, whom, start, hear_at, pass_to, passed, is_refused, pass, for_channel, receive_by, serve, Turned, turned, ends, reads, writes, is_part, portion, doing, drained_by, drained, turn_in, input_credit, took_turn, turn_of, turn, lose, flush_back, with_all}
-use Rattle.model.proofs.Finds.{eqb_same, find-append, find_none, numbers-append, above-not-in, above_in, rising-append, rising-above, in-append, in-middle, find-key}
-use Rattle.model.proofs.Ways.{asks, tells-of, asks_append, tells-append}
-use Rattle.model.proofs.Local.{Local, Fresh}
-use Rattle.model.proofs.Inv.{starts, InvOf}
-use Rattle.model.proofs.HearsServer.{pass-local, only-start, runs-local, refused-local}
+use Rattle.model.specs.Keyed.{change}
+use Rattle.model.specs.Messages.{Rules, Fair, Reply, InputCredit, ToServer, ToClient, Does, Reads, Writes, Ends, GoesOn, Programs, Did, did, is_some}
+use Rattle.model.specs.Client.{Client, ClientChannel, channel_at}
+use Rattle.model.specs.Server.{Server, ServerChannel, server, number_at, channel_of, is_live, cut_server, Turned, turned, ends, reads, writes, is_part, portion, doing, drained_by, turn_in, input_credit, took_turn, turn_of, turn, lose, flush_back}
+use Rattle.model.proofs.Finds.{eqb_same, find-key}
+use Rattle.model.proofs.Ways.{asks, tells-of, tells-append}
+use Rattle.model.proofs.Local.{Local}
+use Rattle.model.proofs.Inv.{InvOf}
 use Rattle.model.proofs.InTurn.{turn-local, credit_back, cut-there}
-use Rattle.model.proofs.Known.{Known, IdleThere, IdleHere, whole, parts-of, server-flush, server-changes}
+use Rattle.model.proofs.Known.{Known, parts-of, server-flush, server-changes}
 
 -- a turn leaves a channel its number
 module _ {S E : Type 0} (r : Rules) (p : Programs S E) (e : E) (x : ServerChannel S) where

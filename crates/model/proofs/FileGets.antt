@@ -1,9 +1,9 @@
 -- A get under way keeps its file. Assumes nothing.
-use Rattle.std.proofs.Common.{◌≡◌, ℕ, Bool, true, false, cond, not, ◌&&◌, eqb, List, [], ◌∷◌, ◌++◌, take, Some, None, Option, sym, refl, ap, ◌∙◌, subst}
+use Rattle.std.proofs.Common.{◌≡◌, ℕ, Bool, true, false, cond, eqb, List, [], ◌∷◌, ◌++◌, take, Some, None, Option, sym, refl, ap, ◌∙◌, subst}
 use Rattle.std.proofs.lemmas.Bool.{true≢false, not-true, and_parts, eq-eqb, eqb-true}
 use Rattle.model.specs.Keyed.{find, is_in, gather}
 use Rattle.model.specs.Messages.{is_some}
-use Rattle.model.specs.Files.{Limits, Entry, Put, Get, Files, Event, Begin, Write, Commit, GiveUp, BeginGet, EndGet, CrashInWrite, CrashInCommit, Crash, without, put_number, get_number, held, bytes_in, file_of, blocks_of_put, files, can_begin, new_put, with_put, needed, free, begun, is_next, write, wrote, wrote_in, wrote_by, committing, committed, get_begun, got_by, reads, step, after, last_put}
+use Rattle.model.specs.Files.{Limits, Entry, Put, Get, Files, Event, Begin, Write, Commit, GiveUp, BeginGet, EndGet, CrashInWrite, CrashInCommit, Crash, put_number, get_number, held, bytes_in, file_of, blocks_of_put, files, can_begin, new_put, with_put, needed, free, begun, is_next, write, wrote, wrote_in, wrote_by, committing, committed, get_begun, got_by, step, after, last_put}
 use Rattle.model.specs.FilePromises.{spares, goes_on, GetKeepsItsFile}
 use Rattle.model.proofs.FileLists.{none-some, some_inj, find-without-other, in_right, gather-write}
 use Rattle.model.proofs.FileSteps.{Good}

@@ -1,13 +1,13 @@
 -- Files over whole histories: each event keeps what holds, so each name has the file that was put last. Assumes nothing.
-use Rattle.std.proofs.Common.{◌≡◌, ℕ, zero, suc, ◌≤◌, Bool, true, false, cond, not, ◌&&◌, ◌||◌, eqb, ◌⊎◌, List, [], ◌∷◌, ◌++◌, take, Some, None, Option, sym, refl, ap, ◌∙◌, subst, inl, inr, ⊎_elim, append-nil}
-use Rattle.std.proofs.lemmas.Bool.{true≢false, both_ways, not-true, and_parts, eqb-true, eq-eqb}
-use Rattle.model.specs.Keyed.{find, is_in, gather}
+use Rattle.std.proofs.Common.{◌≡◌, ℕ, Bool, true, false, cond, eqb, ◌⊎◌, List, [], ◌∷◌, take, Some, None, Option, sym, refl, ap, ◌∙◌, subst, inl, inr}
+use Rattle.std.proofs.lemmas.Bool.{true≢false, eq-eqb}
+use Rattle.model.specs.Keyed.{find, is_in}
 use Rattle.model.specs.Messages.{is_some}
-use Rattle.model.specs.Files.{Limits, Entry, Slot, Junk, Fits, Slots, Put, Get, Files, Left, Old, New, Other, Event, Begin, Write, Commit, GiveUp, BeginGet, EndGet, CrashInWrite, CrashInCommit, Crash, without, same, put_number, get_number, held, blocks_in, bytes_in, file_of, blocks_of_put, free, files, fresh, crashed, needed, new_put, with_put, is_next, write, wrote, wrote_in, wrote_by, left_of, torn_in, torn_by, can_commit, committing, committed, entry, not_holding, in_slot, left_in, torn_commit, add_name, get_begun, step, puts_by, newer, after, last_put}
-use Rattle.model.specs.FilePromises.{Apart, Alone, FilesWhole, OldOrNew, IsCommitOf, PutsAlone, RefusedLeavesFiles}
+use Rattle.model.specs.Files.{Limits, Entry, Junk, Fits, Put, Files, Left, Old, New, Other, Event, Begin, Write, Commit, GiveUp, BeginGet, EndGet, CrashInWrite, CrashInCommit, Crash, same, put_number, get_number, held, blocks_in, file_of, blocks_of_put, free, files, fresh, crashed, needed, new_put, with_put, is_next, write, wrote, wrote_in, wrote_by, left_of, torn_in, torn_by, can_commit, committing, committed, entry, not_holding, in_slot, torn_commit, add_name, get_begun, step, puts_by, newer, after, last_put}
+use Rattle.model.specs.FilePromises.{Apart, FilesWhole, OldOrNew, IsCommitOf, PutsAlone, RefusedLeavesFiles}
 use Rattle.model.proofs.FileLists.{none-some, some_inj, found-without, found_number, in_left, in_right, same-eq}
 use Rattle.model.proofs.FileSlots.{held-other, held_new, held-spoilt, held-old}
-use Rattle.model.proofs.FileKeeps.{Kept, Own, Inv, alone, put-away, get-away, get-more}
+use Rattle.model.proofs.FileKeeps.{Own, alone, put-away, get-away, get-more}
 use Rattle.model.proofs.FileSteps.{Good, kept-write, kept-slots, kept_new, begin-good, write-own}
 
 abbrev Wanted : Type 0

@@ -1,13 +1,10 @@
 -- What holds of files after every event: each name has the file that was put last, and the blocks of a put are its own. Assumes nothing.
-use Rattle.std.proofs.Common.{◌≡◌, ℕ, zero, suc, ◌≤◌, Bool, true, false, cond, not, ◌&&◌, ◌||◌, eqb, ◌⊎◌, List, [], ◌∷◌, ◌++◌, length, take, Some, None, Option, sym, refl, ap, ◌∙◌, subst, inl, inr, ⊎_elim, append_assoc, append-nil, arith}
-use Rattle.std.proofs.lemmas.Bool.{true≢false, both_ways, not-true, and_parts, eqb-true, eq-eqb, ne_eqb}
+use Rattle.std.proofs.Common.{◌≡◌, ℕ, Bool, true, false, cond, eqb, List, [], ◌∷◌, Some, Option, sym, refl, ap, ◌∙◌, subst}
+use Rattle.std.proofs.lemmas.Bool.{both_ways, eqb-true, eq-eqb, ne_eqb}
 use Rattle.model.specs.Keyed.{find, is_in, gather}
-use Rattle.model.specs.Messages.{is_some}
-use Rattle.model.specs.Files
-use Rattle.model.specs.Files.{Limits, Entry, Slot, Junk, Fits, Slots, Put, Get, Left, Old, New, Other, keep, up_from, without, is_named, same, put_number, get_number, held, blocks_in, bytes_in, blocks_of_put, blocks_of_get, is_free, free, taken, files, needed, new_put, with_put, write, wrote, left_of, entry, not_holding, in_slot, left_in, add_name}
+use Rattle.model.specs.Files.{Entry, Slots, Put, Get, without, is_named, put_number, get_number, held, blocks_in, bytes_in, blocks_of_put, with_put}
 use Rattle.model.specs.FilePromises.{Apart}
-use Rattle.model.proofs.FileLists.{none-some, some_inj, find-without-same, found-without, found_number, in_left, in_right, in_either, in-none, found-gather, named-gather, in-keep, in_take, Distinct, distinct-keep, distinct-take, distinct-up_from, gather-write, gather_append}
-use Rattle.model.proofs.FileSlots.{held-other, held_new, held-spoilt, held-old, named-now, named-still}
+use Rattle.model.proofs.FileLists.{none-some, some_inj, found-without, Distinct}
 
 -- each name has the file that is wanted, and who has blocks is named
 pub record Kept (block : ℕ → List ℕ) (slots : List ℕ → Slots) (names : List (List ℕ)) (want : List ℕ → Option (List ℕ)) : Type 0 where

@@ -1,12 +1,12 @@
 -- A put from its beginning to its commit, whatever other puts and gets do meanwhile. Assumes nothing.
-use Rattle.std.proofs.Common.{◌≡◌, ℕ, zero, suc, ◌+◌, ◌-◌, ◌/◌, ◌<◌, ◌≤◌, min, Bool, true, false, cond, not, ◌&&◌, eqb, leb, List, [], ◌∷◌, ◌++◌, length, take, Some, None, Option, sym, refl, ap, ◌∙◌, subst, inl, inr, ⊎_elim, append-nil, arith, length-append, length-take}
+use Rattle.std.proofs.Common.{◌≡◌, ℕ, zero, suc, ◌+◌, ◌-◌, ◌/◌, ◌<◌, ◌≤◌, min, Bool, true, false, cond, not, ◌&&◌, eqb, leb, List, [], ◌∷◌, ◌++◌, length, take, Some, None, Option, sym, refl, ap, ◌∙◌, subst, ⊎_elim, append-nil, arith, length-append, length-take}
 use native.Mathlib.Nat.{div-eq_of_lt, div-eq-sub-div}
-use Rattle.std.proofs.lemmas.Bool.{true≢false, both_ways, not-true, and_parts, and_from, eqb-true, eq-eqb, leb-true, cases_lt}
+use Rattle.std.proofs.lemmas.Bool.{true≢false, not-true, and_parts, and_from, eqb-true, eq-eqb, leb-true, cases_lt}
 use Rattle.model.specs.Keyed.{find}
 use Rattle.model.specs.Messages.{is_some}
-use Rattle.model.specs.Files.{Limits, Entry, Put, Get, Files, Event, Begin, Write, Commit, GiveUp, BeginGet, EndGet, CrashInWrite, CrashInCommit, Crash, without, same, put_number, get_number, held, file_of, files, free, can_begin, needed, new_put, with_put, begun, is_next, write, wrote, wrote_in, wrote_by, can_commit, room_for_name, committing, committed, get_begun, step, newer, after, last_put}
+use Rattle.model.specs.Files.{Limits, Entry, Put, Files, Event, Begin, Write, Commit, GiveUp, BeginGet, EndGet, CrashInWrite, CrashInCommit, Crash, without, same, put_number, get_number, held, files, free, can_begin, needed, new_put, with_put, begun, is_next, write, wrote, wrote_in, wrote_by, can_commit, room_for_name, committing, committed, get_begun, step, newer, after, last_put}
 use Rattle.model.specs.FilePromises.{spares_put, given_by, given_to, is_block, put_goes_on, PutGoesThrough}
-use Rattle.model.proofs.FileLists.{none-some, some_inj, find-without-other, found_number, same_refl}
+use Rattle.model.proofs.FileLists.{find-without-other, found_number, same_refl}
 use Rattle.model.proofs.FileHistory.{files-whole, may-commit}
 
 -- how many blocks so many bytes need

@@ -1,7 +1,7 @@
 -- A name's two slots: what holds after a record, junk or the old bytes went into the one that does not hold. Assumes nothing.
-use Rattle.std.proofs.Common.{◌≡◌, ℕ, suc, ◌<◌, ◌≤◌, Bool, true, false, cond, not, ltb, List, [], ◌∷◌, Some, None, Option, sym, refl, ap, ◌∙◌, subst, arith}
-use Rattle.std.proofs.lemmas.Bool.{ltb-true, ltb-false, lt-ltb, le-ltb}
-use Rattle.model.specs.Files.{Entry, Slot, Junk, Fits, Slots, Put, Left, Old, New, Other, same, is_named, holding, first_holds, held, blocks_in, count_in, bytes_in, entry, in_place, not_holding, in_slot, left_in, add_name}
+use Rattle.std.proofs.Common.{◌≡◌, ℕ, ◌<◌, Bool, true, false, cond, not, ltb, List, ◌∷◌, Some, Option, refl, ap, ◌∙◌, subst, arith}
+use Rattle.std.proofs.lemmas.Bool.{lt-ltb, le-ltb}
+use Rattle.model.specs.Files.{Entry, Slot, Junk, Fits, Slots, Put, same, is_named, holding, first_holds, held, count_in, entry, in_place, not_holding, in_slot, add_name}
 use Rattle.model.proofs.FileLists.{same-eq, same_refl}
 
 abbrev pub held_in : Slots → Option Entry

@@ -1,13 +1,12 @@
 -- Each event keeps what holds of files. Assumes nothing.
-use Rattle.std.proofs.Common.{◌≡◌, ℕ, zero, suc, ◌≤◌, Bool, true, false, cond, not, ◌&&◌, ◌||◌, eqb, leb, ◌⊎◌, List, [], ◌∷◌, ◌++◌, length, take, Some, None, Option, sym, refl, ap, ◌∙◌, subst, inl, inr, ⊎_elim, append_assoc, append-nil, arith}
-use Rattle.std.proofs.lemmas.Bool.{true≢false, both_ways, not-true, and_parts, eqb-true, eq-eqb}
+use Rattle.std.proofs.Common.{◌≡◌, ℕ, Bool, true, false, cond, eqb, List, [], ◌∷◌, ◌++◌, take, Some, None, Option, sym, refl, ap, ◌∙◌, subst, ⊎_elim, append_assoc, append-nil}
+use Rattle.std.proofs.lemmas.Bool.{true≢false, both_ways, not-true, eqb-true, eq-eqb}
 use Rattle.model.specs.Keyed.{find, is_in, gather}
-use Rattle.model.specs.Messages.{is_some}
-use Rattle.model.specs.Files.{Limits, Entry, Slot, Junk, Fits, Slots, Put, Get, Files, Left, Old, New, Other, Event, Begin, Write, Commit, GiveUp, BeginGet, EndGet, CrashInWrite, CrashInCommit, Crash, keep, up_from, without, is_named, same, put_number, get_number, held, blocks_in, bytes_in, blocks_of_put, blocks_of_get, is_free, free, taken, files, fresh, crashed, can_begin, needed, new_put, with_put, begun, is_next, write, wrote, wrote_in, wrote_by, left_of, torn_in, torn_by, can_commit, committing, committed, entry, not_holding, in_slot, left_in, torn_commit, add_name, get_begun, step, puts_by, newer, after, last_put}
+use Rattle.model.specs.Files.{Limits, Entry, Fits, Slots, Put, Files, up_from, is_named, same, put_number, get_number, held, blocks_in, bytes_in, blocks_of_put, blocks_of_get, is_free, free, taken, files, can_begin, needed, new_put, with_put, begun, write, wrote, entry, in_slot, add_name, newer}
 use Rattle.model.specs.FilePromises.{Apart}
-use Rattle.model.proofs.FileLists.{none-some, some_inj, found-without, found_number, in_left, in_right, in_either, in-none, found-gather, named-gather, in-keep, in_take, Distinct, distinct-keep, distinct-take, distinct-up_from, gather-write, gather_append}
-use Rattle.model.proofs.FileSlots.{held-other, held_new, held-spoilt, held-old, named-now, named-still}
-use Rattle.model.proofs.FileKeeps.{Kept, Own, Inv, alone, put-away, get-away, get-more, put-now}
+use Rattle.model.proofs.FileLists.{found_number, in_left, in_right, in_either, in-none, found-gather, named-gather, in-keep, in_take, Distinct, distinct-keep, distinct-take, distinct-up_from, gather-write, gather_append}
+use Rattle.model.proofs.FileSlots.{held-other, held_new, named-now, named-still}
+use Rattle.model.proofs.FileKeeps.{Kept, Own, Inv, put-now}
 
 abbrev pub Good : Files → (List ℕ → Option (List ℕ)) → Type 0
 Good s want = Inv s.block s.slots s.names s.puts s.gets want

@@ -1,5 +1,5 @@
 -- The numbers of the server's channels grow only at the end; once all have ended after the cut, all is forgotten. Assumes nothing.
-use Rattle.std.proofs.Common.{◌≡◌, ℕ, true, false, List, [], ◌∷◌, ◌++◌, sym, refl, ◌∙◌, append-nil, arith}
+use Rattle.std.proofs.Common.{◌≡◌, ℕ, true, false, List, [], ◌∷◌, ◌++◌, sym, refl, ◌∙◌, append-nil}
 use Rattle.std.proofs.lemmas.Bool.{both_ways}
 use Rattle.model.specs.Keyed.{numbers, every}
 use Rattle.model.specs.Messages.{Rules, ToServer, Programs}

@@ -1,12 +1,12 @@
 -- One channel at a reply that arrives: it is taken in, and what is known stays known. Assumes nothing.
-use Rattle.std.proofs.Common.{◌≡◌, ℕ, zero, suc, ◌+◌, ◌-◌, ◌<◌, ◌≤◌, min, Bool, true, false, cond, not, ◌&&◌, ◌||◌, eqb, ltb, ◌⊎◌, List, [], ◌∷◌, ◌++◌, length, take, drop, Some, None, Ok, Err, Option, Result, sym, refl, ap, ◌∙◌, subst, inl, inr, append_assoc, append-nil, arith}
+use Rattle.std.proofs.Common.{◌≡◌, ℕ, ◌+◌, ◌-◌, ◌≤◌, Bool, true, false, cond, ltb, List, [], ◌∷◌, length, Some, None, Ok, Err, Option, sym, refl, ap, ◌∙◌, subst, inl, inr, arith}
 use Rattle.std.proofs.lemmas.List.{length-append}
 use Rattle.std.proofs.lemmas.Bool.{true≢false, le-ltb}
-use Rattle.model.specs.Messages.{Rules, Fair, Request, Run, Reply, Runs, Output, InputCredit, Exit, Fault, OutOfTurn, Uncountable, BeyondWindow, is_some}
-use Rattle.model.specs.Client.{ClientChannel, Phase, Asked, Running, Refused, Closed, answered, got_more, may_more, told_exit, hear_asked, hear_running, hear_in, hear}
+use Rattle.model.specs.Messages.{Rules, Fair, Request, Reply, Runs, Output, InputCredit, Exit, OutOfTurn, Uncountable, BeyondWindow, is_some}
+use Rattle.model.specs.Client.{ClientChannel, Phase, Asked, Running, Refused, Closed, answered, got_more, may_more, told_exit, hear_asked, hear_in, hear}
 use Rattle.model.specs.Server.{ServerChannel}
-use Rattle.model.proofs.Flow.{Cell, Piece, Last, bytes, lasts, Flow, flow-piece, flow-last, flow-open, flow-count}
-use Rattle.model.proofs.Local.{cells_in, cells_out, credits_up, credits_back, has_close, Begun, Answered, Window, eofs, Fresh, AloneIn, AskedOk, RunningOk, ClosedOk, InPhase, Pair, Local}
+use Rattle.model.proofs.Flow.{bytes, flow-piece, flow-last, flow-open, flow-count}
+use Rattle.model.proofs.Local.{cells_out, credits_back, has_close, Answered, Fresh, AloneIn, AskedOk, RunningOk, InPhase, Pair, Local}
 
 pub not-nil : {A : Type 0} (x : A) (xs : List A) → x ∷ xs ≡ [] → ⊥
 not-nil x xs e = let z : ◌≡◌ {A = ℕ} 0 1 = cc in omega arith

@@ -1,12 +1,12 @@
 -- One channel at a request that arrives at the server: it is taken in, and what is known stays known. Assumes nothing.
-use Rattle.std.proofs.Common.{◌≡◌, ℕ, zero, suc, ◌+◌, ◌-◌, ◌<◌, ◌≤◌, min, Bool, true, false, cond, not, ◌&&◌, ◌||◌, eqb, ltb, ◌⊎◌, List, [], ◌∷◌, ◌++◌, length, take, drop, Some, None, Ok, Err, Option, Result, sym, refl, ap, ◌∙◌, subst, inl, inr, append_assoc, append-nil, arith}
+use Rattle.std.proofs.Common.{◌≡◌, ℕ, ◌+◌, ◌-◌, ◌≤◌, Bool, true, false, cond, ltb, List, [], ◌∷◌, ◌++◌, length, Some, None, Ok, Err, Option, sym, refl, ap, ◌∙◌, subst, inl, inr, arith}
 use Rattle.std.proofs.lemmas.List.{length-append}
 use Rattle.std.proofs.lemmas.Bool.{true≢false, le-ltb}
-use Rattle.model.specs.Messages.{Rules, Fair, Request, Run, Input, OutputCredit, Eof, Close, Reply, Runs, InputCredit, Fault, OutOfTurn, Uncountable, BeyondWindow, Programs, is_some}
+use Rattle.model.specs.Messages.{Rules, Fair, Request, Run, Input, OutputCredit, Eof, Close, Reply, Runs, InputCredit, OutOfTurn, Uncountable, BeyondWindow, Programs, is_some}
 use Rattle.model.specs.Client.{ClientChannel, Phase, Asked, Running, Refused, Closed}
 use Rattle.model.specs.Server.{ServerChannel, came_in, may_send, no_more, forgot, hear_kept, hear_at, new_program}
-use Rattle.model.proofs.Flow.{Cell, Piece, Last, bytes, lasts, Flow, flow-fresh, flow-piece, flow-last, flow-open, flow-count, flow-said, flow-grow, flow-end}
-use Rattle.model.proofs.Local.{cells_in, cells_out, credits_up, credits_back, has_close, Begun, Answered, Window, eofs, Fresh, AloneIn, AskedOk, RunningOk, ClosedOk, InPhase, Pair, Local}
+use Rattle.model.proofs.Flow.{bytes, Flow, flow-fresh, flow-piece, flow-last, flow-open, flow-count, flow-said}
+use Rattle.model.proofs.Local.{cells_in, cells_out, credits_up, credits_back, has_close, Begun, Answered, eofs, Fresh, AloneIn, InPhase, Pair, Local}
 use Rattle.model.proofs.HearsClient.{not-nil, head-is}
 
 eof-not : (b : Bool) → eofs b ≡ None → b ≡ false

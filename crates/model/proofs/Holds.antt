@@ -1,17 +1,16 @@
 -- The invariant holds after every list of events, and what it says of a channel at both sides. Assumes nothing.
-use Rattle.std.proofs.Common.{◌≡◌, ℕ, zero, suc, ◌+◌, ◌-◌, ◌<◌, ◌≤◌, min, Bool, true, false, cond, not, ◌&&◌, ◌||◌, eqb, ◌⊎◌, List, [], ◌∷◌, ◌++◌, length, drop, Some, None, Option, sym, refl, ap, ◌∙◌, subst, inl, inr, append-nil, arith}
-use mathlib.Core.List.{Memᴰ}
+use Rattle.std.proofs.Common.{◌≡◌, ℕ, Bool, true, false, cond, ◌⊎◌, List, [], ◌∷◌, ◌++◌, length, drop, Some, None, Option, sym, refl, ap, ◌∙◌, subst, inl, inr, append-nil, arith}
 use Rattle.std.proofs.lemmas.Bool.{true≢false}
 use Rattle.model.specs.Keyed.{find, numbers, is_in, Rising}
-use Rattle.model.specs.Messages.{Rules, Fair, Request, Reply, ToServer, ToClient, Programs, is_some}
-use Rattle.model.specs.Client.{Client, ClientChannel, new_client, number_of, channel_at, Phase, Asked, Running, Refused, Closed}
-use Rattle.model.specs.Server.{Server, ServerChannel, new_server, number_at, channel_of}
+use Rattle.model.specs.Messages.{Rules, Fair, ToServer, ToClient, Programs, is_some}
+use Rattle.model.specs.Client.{ClientChannel, new_client, number_of, channel_at, Phase, Asked, Running, Refused, Closed}
+use Rattle.model.specs.Server.{ServerChannel, new_server, number_at, channel_of}
 use Rattle.model.specs.World.{World, Event, User, Turn, ArriveThere, ArriveHere, CutHere, CutThere, Connect, Time, arrive_there, arrive_here, can_connect, connected, step, after}
 use Rattle.model.specs.Promises.{AtClient, AtServer, InputTrue, OutputTrue, InWindow, InputIsPrefix, OutputIsPrefix, ForgottenWasShown, ClosedWasTaken}
 use Rattle.model.proofs.Finds.{found, find-mem, find-key}
 use Rattle.model.proofs.Ways.{asks, tells-of}
-use Rattle.model.proofs.Flow.{Cell, bytes, Flow, flow-prefix, flow-told, flow-count}
-use Rattle.model.proofs.Local.{cells_in, cells_out, eofs, AloneIn, InPhase, Pair, Local, Fresh}
+use Rattle.model.proofs.Flow.{bytes, Flow, flow-prefix, flow-told, flow-count}
+use Rattle.model.proofs.Local.{cells_in, cells_out, eofs, AloneIn, InPhase, Pair, Local}
 use Rattle.model.proofs.Inv.{starts, InvOf, Inv}
 use Rattle.model.proofs.ByClient.{obeyed, taken_in, cut-client}
 use Rattle.model.proofs.ByServer.{took-turn, lost}

@@ -1,12 +1,12 @@
 -- After its flush a channel has nothing left that may be sent. Assumes nothing.
-use Rattle.std.proofs.Common.{◌≡◌, ℕ, zero, suc, ◌+◌, ◌-◌, ◌<◌, ◌≤◌, min, Bool, true, false, cond, not, ◌&&◌, ◌||◌, eqb, ltb, List, [], ◌∷◌, ◌++◌, length, take, drop, Some, None, Option, sym, refl, ap, ◌∙◌, subst, append_assoc, append-nil, arith}
+use Rattle.std.proofs.Common.{◌≡◌, ℕ, ◌+◌, Bool, true, false, cond, not, ◌&&◌, ◌||◌, eqb, List, [], ◌++◌, length, Some, None, Option, refl, ap, ◌∙◌, arith}
 use Rattle.std.proofs.lemmas.List.{nil_from_length}
 use Rattle.std.proofs.lemmas.Bool.{true≢false}
-use Rattle.model.specs.Messages.{Rules, Request, Run, Input, OutputCredit, Eof, Close, ToServer, Login, Tick, For, Reply, ready, parts, is_some}
-use Rattle.model.specs.Client.{ClientChannel, Phase, Asked, Running, Refused, Closed, runs, goes, eof_now, close_now, inputs, requests, flushed, flushed_running, labelled}
+use Rattle.model.specs.Messages.{Rules, ready, parts, is_some}
+use Rattle.model.specs.Client.{ClientChannel, Phase, Asked, Running, Refused, Closed, runs, goes, eof_now, close_now, inputs, requests, flushed, flushed_running}
 use Rattle.model.specs.Server.{ServerChannel, goes_back, exit_now, exit_reply, outputs, replies, sent_kept, sent_back}
 use Rattle.model.proofs.Flow.{ready-length, parts_none}
-use Rattle.model.proofs.AtClient.{tail, running, idle-phase, running-phase}
+use Rattle.model.proofs.AtClient.{tail, idle-phase, running-phase}
 use Rattle.model.proofs.AtServer.{keeps, forgotten-still, kept-moves}
 
 -- what went is gone

@@ -1,13 +1,13 @@
 -- One channel in a turn of its program, and at the cut. Assumes nothing.
-use Rattle.std.proofs.Common.{◌≡◌, ℕ, zero, suc, ◌+◌, ◌-◌, ◌<◌, ◌≤◌, min, Bool, true, false, cond, not, ◌&&◌, ◌||◌, eqb, ltb, leb, ◌⊎◌, List, [], ◌∷◌, ◌++◌, length, take, drop, Some, None, Option, sym, refl, ap, ◌∙◌, subst, inl, inr, append_assoc, append-nil, arith}
-use Rattle.std.proofs.lemmas.List.{length-append, length-take, length-drop}
+use Rattle.std.proofs.Common.{◌≡◌, ℕ, zero, suc, ◌-◌, ◌≤◌, Bool, true, false, cond, not, ◌&&◌, ◌||◌, eqb, ltb, leb, List, [], ◌∷◌, ◌++◌, length, drop, Some, None, Option, sym, refl, ap, ◌∙◌, subst, append-nil, arith}
+use Rattle.std.proofs.lemmas.List.{length-take, length-drop}
 use Rattle.std.proofs.lemmas.Bool.{true≢false}
 use Rattle.std.specs.Option.{option_map}
-use Rattle.model.specs.Messages.{Rules, Fair, Request, Reply, Runs, Output, InputCredit, Exit, Does, Reads, Writes, Ends, GoesOn, Programs, is_some}
+use Rattle.model.specs.Messages.{Rules, Fair, Request, Reply, InputCredit, Does, Reads, Writes, Ends, GoesOn, Programs, is_some}
 use Rattle.model.specs.Client.{ClientChannel, Phase, Asked, Running, Refused, Closed}
 use Rattle.model.specs.Server.{ServerChannel, read_more, wrote_more, ended, counted, forgot, portion, is_part, Turned, turned, ends, reads, writes, doing, drained_by, drained, turn_in}
 use Rattle.model.proofs.Flow.{Cell, lasts, Flow, flow-grow, flow-end, flow-unsaid, flow-said, unsaid-lasts}
-use Rattle.model.proofs.Local.{cells_in, cells_out, credits_up, credits_back, has_close, Begun, Answered, Window, eofs, Fresh, AloneIn, AskedOk, RunningOk, ClosedOk, InPhase, Pair, Local, cells_out-append, credits_back-append, answered-append}
+use Rattle.model.proofs.Local.{cells_out, credits_back, Answered, Window, InPhase, Pair, Local, cells_out-append, credits_back-append, answered-append}
 
 -- how the reading of n bytes is told
 abbrev pub credit_back : Bool → ℕ → List Reply

@@ -1,7 +1,7 @@
 -- What holds after every list of events: of each channel, and of all together. Assumes nothing.
-use Rattle.std.proofs.Common.{◌≡◌, ℕ, zero, suc, ◌+◌, ◌≤◌, Bool, true, false, cond, not, ◌&&◌, ◌||◌, List, [], ◌∷◌, ◌++◌, Some, None, Option}
-use Rattle.model.specs.Keyed.{find, numbers, is_in, Rising}
-use Rattle.model.specs.Messages.{Rules, Fair, ToServer, Login, Tick, For, ToClient, Request, Run, Input, OutputCredit, Eof, Close, Reply}
+use Rattle.std.proofs.Common.{◌≡◌, ℕ, ◌≤◌, true, List, [], ◌∷◌, ◌++◌, Some}
+use Rattle.model.specs.Keyed.{numbers, is_in, Rising}
+use Rattle.model.specs.Messages.{Rules, ToServer, Login, Tick, For, ToClient, Run, Input, OutputCredit, Eof, Close}
 use Rattle.model.specs.Client.{Client, ClientChannel, number_of, channel_at, requests}
 use Rattle.model.specs.Server.{Server, ServerChannel, number_at, channel_of, replies}
 use Rattle.model.specs.World.{World}

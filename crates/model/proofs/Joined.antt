@@ -1,5 +1,5 @@
 -- The promises that join what is known of single channels with what is known of histories. Assumes nothing.
-use Rattle.std.proofs.Common.{List, arith}
+use Rattle.std.proofs.Common.{arith}
 use Rattle.model.specs.Messages.{RealIsFair}
 use Rattle.model.specs.Promises.{StartedByWhoMay, RunsOnce, WindowsHold}
 use Rattle.model.proofs.Grows.{numbers-grow}

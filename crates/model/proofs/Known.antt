@@ -1,13 +1,13 @@
 -- What is known of all channels, when one of them changes at one side. Assumes nothing.
-use Rattle.std.proofs.Common.{◌≡◌, ℕ, zero, suc, ◌+◌, ◌-◌, ◌<◌, ◌≤◌, Bool, true, false, cond, not, ◌&&◌, ◌||◌, eqb, ltb, List, [], ◌∷◌, ◌++◌, Some, None, Option, sym, refl, ap, ◌∙◌, subst, append_assoc, append-nil, arith}
+use Rattle.std.proofs.Common.{◌≡◌, ℕ, ◌≤◌, Bool, true, false, cond, eqb, List, [], ◌∷◌, ◌++◌, Some, None, Option, sym, refl, ap, ◌∙◌, subst, append_assoc, append-nil, arith}
 use Rattle.std.proofs.lemmas.Bool.{eqb-true, true≢false}
 use Rattle.std.specs.Option.{option_map}
 use Rattle.model.specs.Keyed.{find, change, numbers, is_in, Rising, gather, each, every}
-use Rattle.model.specs.Messages.{Rules, Fair, Request, Run, Input, OutputCredit, Eof, Close, Reply, ToServer, Login, Tick, For, ToClient, Did, did, parts}
+use Rattle.model.specs.Messages.{Rules, Fair, Request, Run, Input, OutputCredit, Eof, Close, Reply, ToServer, Login, Tick, For, ToClient, did, parts}
 use Rattle.model.specs.Client.{Client, ClientChannel, client, number_of, channel_at, goes, eof_now, close_now, inputs, requests, requests_of, flushed, flushed_running, flush, labelled}
 use Rattle.model.specs.Server.{Server, ServerChannel, server, number_at, channel_of, replies, replies_of, sent_back, forgot, forget_all, flush_back, is_over, with_all, returned}
-use Rattle.model.proofs.Finds.{find-each, find-change, numbers-each, numbers-change, find-key}
-use Rattle.model.proofs.Ways.{asks, tells-of, asks_append, tells-append, asks-labelled, tells-returned, those, own-gather}
+use Rattle.model.proofs.Finds.{find-each, find-change, numbers-each, numbers-change}
+use Rattle.model.proofs.Ways.{asks, tells-of, asks_append, tells-append, asks-labelled, tells-returned, own-gather}
 use Rattle.model.proofs.Local.{Local}
 use Rattle.model.proofs.Inv.{starts, InvOf}
 use Rattle.model.proofs.AtClient.{tail, flush-local}

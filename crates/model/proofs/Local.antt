@@ -1,9 +1,9 @@
 -- What is known of one channel: of its two ends and its messages on the way. Assumes nothing.
-use Rattle.std.proofs.Common.{◌≡◌, ℕ, zero, suc, ◌+◌, ◌-◌, ◌<◌, ◌≤◌, min, Bool, true, false, cond, not, ◌&&◌, ◌||◌, ◌⊎◌, List, [], ◌∷◌, ◌++◌, length, Some, None, Option, sym, refl, ap, ◌∙◌, subst, inl, inr, append_assoc, append-nil, arith}
-use Rattle.model.specs.Messages.{Rules, Fair, Request, Run, Input, OutputCredit, Eof, Close, Reply, Runs, Output, InputCredit, Exit, is_some}
+use Rattle.std.proofs.Common.{◌≡◌, ℕ, ◌+◌, ◌≤◌, Bool, true, false, ◌||◌, ◌⊎◌, List, [], ◌∷◌, ◌++◌, length, Some, None, Option, refl, ap, arith}
+use Rattle.model.specs.Messages.{Rules, Request, Run, Input, OutputCredit, Eof, Close, Reply, Runs, Output, InputCredit, Exit, is_some}
 use Rattle.model.specs.Client.{ClientChannel, Phase, Asked, Running, Refused, Closed}
 use Rattle.model.specs.Server.{ServerChannel}
-use Rattle.model.proofs.Flow.{Cell, Piece, Last, bytes, lasts, Flow}
+use Rattle.model.proofs.Flow.{Cell, Piece, Last, lasts, Flow}
 
 unfoldable pub cells_in : List Request → List Cell
 cells_in [] = []

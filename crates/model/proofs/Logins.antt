@@ -6,7 +6,7 @@ use Rattle.std.proofs.lemmas.Bool.{both_ways}
 use Rattle.model.specs.Keyed.{gather, each}
 use Rattle.model.specs.Messages.{Rules, Request, ToServer, Login, For, ToClient, Programs, Did, did}
 use Rattle.model.specs.Client.{Client, ClientChannel, Command, LogIn, Start, Enter, Finish, Take, Refusal, refusal, output_credit, takeable, channel_at, labelled, requests_of, flushed, flush, command, obey_unless, receive, client}
-use Rattle.model.specs.Server.{ServerChannel, Server, sent_kept, whom}
+use Rattle.model.specs.Server.{ServerChannel, Server, sent_kept}
 use Rattle.model.specs.World.{World, Event, User, Turn, ArriveThere, ArriveHere, CutHere, CutThere, Connect, Time, arrive_there, arrive_here, can_connect, connected, step, after}
 use Rattle.model.specs.History.{comes_up, Obeyed, Began}
 use Rattle.model.specs.Promises.{AtServer, AtClient, Started, OneUser}

@@ -1,10 +1,10 @@
 -- The numbers of the server's channels differ and were used; from where a channel of the server comes. Assumes nothing.
-use Rattle.std.proofs.Common.{◌≡◌, ℕ, Bool, true, false, cond, not, List, [], ◌∷◌, ◌++◌, Some, None, sym, refl, ap, ◌∙◌, subst, arith}
+use Rattle.std.proofs.Common.{◌≡◌, ℕ, Bool, true, false, cond, List, [], ◌∷◌, ◌++◌, Some, None, sym, refl, ap, ◌∙◌, subst, arith}
 use mathlib.Core.List.Memᴰ
 use Rattle.std.proofs.lemmas.Bool.{eqb-false}
-use Rattle.model.specs.Keyed.{find, change, numbers, is_in, above, each}
+use Rattle.model.specs.Keyed.{find, change, is_in, above, each}
 use Rattle.model.specs.Messages.{Rules, Run, ToServer, For, Programs}
-use Rattle.model.specs.Server.{ServerChannel, Server, number_at, is_live, is_over, forgot, sent_back, sent_kept, whom, server, channel_of, new_program}
+use Rattle.model.specs.Server.{ServerChannel, Server, number_at, is_live, is_over, forgot, sent_back, sent_kept, whom, channel_of, new_program}
 use Rattle.model.specs.World.{World, Event, User, Turn, ArriveThere, ArriveHere, CutHere, CutThere, Connect, Time, after}
 use Rattle.model.specs.History.{comes_up}
 use Rattle.model.specs.Promises.{AtServer}

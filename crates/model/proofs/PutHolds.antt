@@ -1,9 +1,8 @@
 -- Files as the environment of programs, and a put that ends well. Assumes nothing.
-use Rattle.std.proofs.Common.{◌≡◌, ℕ, zero, suc, ◌-◌, Bool, true, false, cond, ◌&&◌, ltb, leb, ◌⊎◌, List, [], ◌∷◌, ◌++◌, length, Some, None, Option, sym, refl, ap, ◌∙◌, subst, inl, inr}
+use Rattle.std.proofs.Common.{◌≡◌, ℕ, zero, suc, ◌-◌, Bool, true, false, cond, ◌&&◌, ltb, leb, ◌⊎◌, List, [], ◌∷◌, ◌++◌, length, Some, None, Option, sym, refl, ap, ◌∙◌, inl, inr}
 use mathlib.Core.List.{reverse_aux}
 use Rattle.std.proofs.lemmas.Bool.{true≢false}
 use Rattle.model.specs.Keyed.{find, every, numbers}
-use Rattle.model.specs.Messages.{Does}
 use Rattle.model.specs.Files.{Limits, Files, Put, Event, Begin, Write, Commit, GiveUp, BeginGet, fresh, same, put_number, get_number, can_begin, can_commit, committing, file_of, step, newer, after, last_put}
 use Rattle.model.specs.Rows.{Playing, rows, beside}
 use Rattle.model.specs.Put.{Ended, Well, BadName, NoRoom, NotWhole, At, NameLength, Name, Size, Block, Digest, Head, Body, Over, Which, IsPut, IsGet, Storing, Told, told, over, if_some, is_name_byte, number, unused, to_come, named, undo, turned_by, came, closed, play, storage}

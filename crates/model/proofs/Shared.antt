@@ -1,9 +1,9 @@
 -- What programs share changes only in their turns and when they end. Assumes nothing.
-use Rattle.std.proofs.Common.{◌≡◌, ℕ, suc, Bool, true, false, cond, not, ◌&&◌, ◌||◌, eqb, ltb, leb, List, [], ◌∷◌, ◌++◌, length, Some, None, Ok, Err, Option, Result, sym, refl, ap, ◌∙◌, subst}
+use Rattle.std.proofs.Common.{◌≡◌, ℕ, suc, Bool, true, false, cond, not, ◌&&◌, ◌||◌, eqb, ltb, leb, List, [], ◌∷◌, ◌++◌, length, Some, None, Ok, Err, Option, Result, sym, refl, ◌∙◌, subst}
 use Rattle.model.specs.Keyed.{every, each, gather}
 use Rattle.model.specs.Messages.{Rules, Request, Run, Input, OutputCredit, Eof, Close, ToServer, Login, Tick, For, ToClient, Accepted, Of, Runs, InputCredit, Fault, Does, Reads, Writes, Ends, GoesOn, Programs, Did, did, is_some}
-use Rattle.model.specs.Server.{ServerChannel, Server, Turned, forgot, sent_back, replies_of, channel_of, is_live, is_over, is_part, portion, server, with_all, cut_server, forget_all, flush_back, login_by, start, runs_now, used_now, new_program, whom, pass_to, passed, pass, is_refused, for_channel, receive_by, turned, ends, reads, writes, doing, drained, drained_by, turn_in, took_turn, turn_of, serve, turn, lose}
-use Rattle.model.specs.World.{World, Event, User, Turn, ArriveThere, ArriveHere, CutHere, CutThere, Connect, Time, by_server, arrive_there, arrive_here, can_connect, connected, step, after}
+use Rattle.model.specs.Server.{ServerChannel, Server, Turned, forgot, sent_back, replies_of, channel_of, is_live, is_over, is_part, portion, server, with_all, cut_server, forget_all, flush_back, login_by, start, runs_now, used_now, new_program, whom, pass_to, passed, pass, is_refused, receive_by, turned, ends, reads, writes, doing, drained_by, turn_in, took_turn, turn_of}
+use Rattle.model.specs.World.{World, Event, User, Turn, ArriveThere, ArriveHere, CutHere, CutThere, Connect, Time, arrive_there, arrive_here, can_connect, connected, step, after}
 
 module _ {S E : Type 0} (r : Rules) (p : Programs S E) where
   abbrev env_of : Did (Server S E) ToClient → E

@@ -3,7 +3,7 @@ use Rattle.std.proofs.Common.{◌≡◌, ℕ, suc, Bool, true, false, cond, not,
 use Rattle.std.proofs.lemmas.Bool.{and_parts, or_parts, not-true}
 use Rattle.model.specs.Keyed.{change, every, is_in, above, each, gather}
 use Rattle.model.specs.Messages.{Rules, Request, Run, Input, OutputCredit, Eof, Close, ToServer, Login, Tick, For, ToClient, Accepted, Of, Runs, InputCredit, Fault, Programs, Did, did}
-use Rattle.model.specs.Server.{ServerChannel, Server, number_at, is_live, is_over, forgot, sent_back, replies_of, may_run, whom, hear_at, server, new_server, channel_of, with_all, cut_server, login_by, new_program, bad_start, runs_now, start, pass_to, passed, is_refused, pass, receive_by, turn_in, turn_of, took_turn, flush_back, turn}
+use Rattle.model.specs.Server.{ServerChannel, Server, number_at, is_live, is_over, forgot, sent_back, replies_of, may_run, whom, hear_at, server, new_server, channel_of, with_all, cut_server, login_by, new_program, bad_start, runs_now, start, pass_to, passed, is_refused, pass, receive_by, turn_in, turn_of, took_turn, flush_back}
 use Rattle.model.specs.World.{World, Event, User, Turn, ArriveThere, ArriveHere, CutHere, CutThere, Connect, Time, arrive_there, can_connect, connected, step}
 use Rattle.model.specs.History.{comes_up}
 use Rattle.model.proofs.Turns.{Hears, hears, Takes, takes}

@@ -1,12 +1,11 @@
 -- The messages of one channel on a way. Assumes nothing.
-use Rattle.std.proofs.Common.{◌≡◌, ℕ, zero, suc, ◌+◌, ◌-◌, ◌<◌, ◌≤◌, Bool, true, false, cond, not, ◌&&◌, ◌||◌, eqb, List, [], ◌∷◌, ◌++◌, Some, None, Option, sym, refl, ap, ◌∙◌, subst, append_assoc, append-nil, arith}
-use Rattle.std.proofs.lemmas.Bool.{eqb-true, eqb-false, eq-eqb, ne_eqb}
-use Rattle.std.proofs.lemmas.Bool.Decides.{nat_tests}
+use Rattle.std.proofs.Common.{◌≡◌, ℕ, Bool, true, false, cond, eqb, List, [], ◌∷◌, ◌++◌, Some, None, Option, refl, ap, ◌∙◌, append-nil, arith}
+use Rattle.std.proofs.lemmas.Bool.{eqb-true}
 use Rattle.model.specs.Keyed.{find, numbers, is_in, Rising, gather}
 use Rattle.model.specs.Messages.{Request, Reply, ToServer, Login, Tick, For, ToClient, Accepted, Tock, Of}
 use Rattle.model.specs.Client.{labelled}
 use Rattle.model.specs.Server.{returned}
-use Rattle.model.proofs.Finds.{rising-tail, rising-first, in-find}
+use Rattle.model.proofs.Finds.{rising-tail, rising-first}
 
 -- the requests of channel t that are on the way
 unfoldable pub asks : ℕ → List ToServer → List Request

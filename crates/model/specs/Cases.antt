@@ -1,8 +1,8 @@
 -- Worked cases, each a row of one table, played by the definitions under the real limits. Assumes nothing.
-use Rattle.std.specs.Prelude.{◌≡◌, ℕ, zero, suc, ◌+◌, ◌%◌, Bool, true, false, cond, not, ◌&&◌, ◌||◌, leb, ◌⊎◌, List, [], ◌∷◌, ◌++◌, reverse, length, take, replicate, Some, None, Option, ◌==◌, nat_le}
+use Rattle.std.specs.Prelude.{◌≡◌, ℕ, zero, suc, ◌+◌, ◌%◌, Bool, true, false, cond, not, ◌&&◌, nat_le, ◌⊎◌, List, [], ◌∷◌, ◌++◌, reverse, length, take, replicate, Some, None, Option, ◌==◌}
 use Rattle.std.proofs.Common.{inl, inr}
 use Rattle.model.specs.Keyed.{every, gather}
-use Rattle.model.specs.Messages.{Rules, real, Does, Reads, Writes, Ends, GoesOn, Programs, ToServer, Login, Tick, For, ToClient, Accepted, Tock, Of, Request, Run, Input, OutputCredit, Eof, Close, Reply, Runs, Output, InputCredit, Exit, is_some}
+use Rattle.model.specs.Messages.{Rules, real, Does, Reads, Writes, Ends, GoesOn, Programs, ToServer, Login, Tick, For, ToClient, Accepted, Tock, Of, Run, Input, OutputCredit, Eof, Close, Runs, Output, InputCredit, Exit, is_some}
 use Rattle.model.specs.Client.{ClientChannel, LogIn, Start, Enter, Finish, channel_at, Phase, Asked, Running, Refused, Closed}
 use Rattle.model.specs.Server.{ServerChannel, channel_of, is_empty}
 use Rattle.model.specs.World.{World, Event, User, Turn, ArriveThere, ArriveHere, CutHere, CutThere, after}
@@ -41,7 +41,7 @@ digest bytes = replicate 32 (sum bytes % 256)
 
 -- commands 254 and 255 are put and get
 abbrev pub programs : Programs (Playing ⊎ Storing) Files
-programs = beside (rows table) (storage device digest) (λ k. leb 254 k)
+programs = beside (rows table) (storage device digest) (λ k. nat_le 254 k)
 
 abbrev pub Place : Type 0
 Place = World (Playing ⊎ Storing) Files

@@ -1,8 +1,8 @@
 -- What a side leaves as it was, whatever the other side sends: messages for a channel that was, and logins that are not accepted. Assumes nothing.
-use Rattle.std.specs.Prelude.{◌≡◌, ℕ, suc, ◌<◌, ◌≤◌, Bool, true, false, cond, ltb, ◌⊎◌, List, [], ◌∷◌, Some, None, Option}
+use Rattle.std.specs.Prelude.{◌≡◌, ℕ, suc, ◌<◌, ◌≤◌, Bool, true, false, ◌⊎◌, List, [], ◌∷◌, Some, None}
 use mathlib.Core.List.{Memᴰ}
 use Rattle.model.specs.Keyed.{numbers, Rising, is_in}
-use Rattle.model.specs.Messages.{Rules, Request, Run, Reply, ToServer, Login, For, ToClient, Accepted, Of, Programs, did}
+use Rattle.model.specs.Messages.{Rules, Request, Run, Reply, Login, For, Accepted, Of, Programs, did}
 use Rattle.model.specs.Client.{Client, ClientChannel, number_of, channel_at, is_held, requests, take_in}
 use Rattle.model.specs.Server.{Server, ServerChannel, number_at, channel_of, replies, serve, server}
 

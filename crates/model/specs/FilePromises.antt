@@ -1,7 +1,7 @@
 -- What is promised of files after every list of puts, gets and crashes. Each is a type; a proof of it is the theorem. Assumes nothing.
-use Rattle.std.specs.Prelude.{◌≡◌, ℕ, ◌-◌, ◌<◌, min, Bool, true, false, cond, not, ◌&&◌, ◌⊎◌, List, [], ◌∷◌, ◌++◌, length, Some, None, Option, ◌==◌, ◌≢◌}
+use Rattle.std.specs.Prelude.{◌≡◌, ℕ, ◌-◌, ◌<◌, min, Bool, true, false, cond, not, ◌&&◌, ◌⊎◌, List, [], ◌∷◌, ◌++◌, length, Some, None, ◌==◌, ◌≢◌}
 use Rattle.model.specs.Keyed.{find, is_in}
-use Rattle.model.specs.Files.{Limits, Files, Put, Get, Left, Old, New, Other, Event, Begin, Write, Commit, GiveUp, BeginGet, EndGet, CrashInWrite, CrashInCommit, Crash, put_number, get_number, held, blocks_in, blocks_of_put, file_of, reads, can_begin, can_commit, room_for_name, after, last_put}
+use Rattle.model.specs.Files.{Limits, Files, Put, Get, New, Event, Begin, Write, Commit, GiveUp, BeginGet, EndGet, CrashInWrite, CrashInCommit, Crash, put_number, get_number, held, blocks_in, blocks_of_put, file_of, reads, can_begin, can_commit, room_for_name, after, last_put}
 
 -- 10. Each name has exactly the file of the last put of it whose record was whole on the device, whole; and none where none was.
 abbrev pub FilesWhole : Type 0

@@ -1,5 +1,5 @@
 -- What happened in a login: commands that were obeyed, starts that came, and what a program did turn by turn. Assumes nothing.
-use Rattle.std.specs.Prelude.{◌≡◌, ℕ, zero, suc, ◌+◌, ◌<◌, ◌≤◌, Bool, true, false, cond, ◌⊎◌, List, [], ◌∷◌, ◌++◌, length, Some, None, Option, ◌==◌}
+use Rattle.std.specs.Prelude.{◌≡◌, ℕ, ◌<◌, ◌≤◌, Bool, true, false, ◌⊎◌, List, [], ◌∷◌, ◌++◌, length, Some, None, Option, ◌==◌}
 use Rattle.model.specs.Messages.{Rules, ToServer, For, Run, Does, Reads, Writes, Ends, GoesOn, Programs, is_some}
 use Rattle.model.specs.Client.{Command, refusal}
 use Rattle.model.specs.Server.{ServerChannel, channel_of, is_part, portion}

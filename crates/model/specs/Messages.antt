@@ -1,5 +1,5 @@
 -- The limits, the messages between client and server, and programs, of which nothing is known. Assumes nothing.
-use Rattle.std.specs.Prelude.{ℕ, zero, suc, ◌+◌, ◌-◌, ◌<◌, ◌≤◌, min, Bool, true, false, cond, eqb, ltb, List, [], ◌∷◌, length, take, drop, Some, None, Option}
+use Rattle.std.specs.Prelude.{ℕ, zero, suc, ◌-◌, ◌<◌, ◌≤◌, Bool, true, false, List, [], ◌∷◌, take, drop, Some, None, Option}
 
 -- window: bytes that each side keeps for one channel; part: the most bytes of a message; most: channels that each side holds;
 -- waiting: bytes of input that may wait to be sent; last: the greatest channel number; tries: logins that may fail;

@@ -1,6 +1,5 @@
 -- What is promised while the connection holds: that everything comes, in a counted number of steps. Assumes nothing.
-use Rattle.std.specs.Prelude.{◌≡◌, ℕ, zero, suc, ◌+◌, ◌*◌, ◌<◌, ◌≤◌, min, Bool, true, false, cond, not, ◌&&◌, List, [], ◌∷◌, ◌++◌, length, take, Some, None, Option, ◌==◌, nat_lt}
-use mathlib.Core.List.{Memᴰ}
+use Rattle.std.specs.Prelude.{◌≡◌, ℕ, suc, ◌+◌, ◌*◌, ◌≤◌, Bool, true, false, cond, ◌&&◌, List, [], ◌∷◌, ◌++◌, length, take, Some, None, Option, ◌==◌, nat_lt}
 use Rattle.model.specs.Messages.{Rules, Fair, ToServer, Login, Tick, For, ToClient, Accepted, Programs, Reads}
 use Rattle.model.specs.Client.{ClientChannel, Command, LogIn, Start, Enter, Finish, Take, refusal, Running}
 use Rattle.model.specs.Server.{ServerChannel, is_part}

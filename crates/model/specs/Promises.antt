@@ -1,11 +1,11 @@
 -- What is promised after every list of events. Each is a type; a proof of it is the theorem. Assumes nothing.
-use Rattle.std.specs.Prelude.{◌≡◌, ℕ, zero, suc, ◌+◌, ◌*◌, ◌<◌, ◌≤◌, Bool, true, false, cond, not, ◌&&◌, ◌⊎◌, List, [], ◌∷◌, ◌++◌, length, take, Some, None, Option, ◌==◌}
+use Rattle.std.specs.Prelude.{◌≡◌, ℕ, ◌+◌, ◌≤◌, true, false, cond, ◌⊎◌, List, [], ◌∷◌, ◌++◌, length, take, Some, None, ◌==◌}
 use mathlib.Core.List.{Memᴰ}
-use Rattle.model.specs.Keyed.{numbers, Rising, every, is_in, above}
-use Rattle.model.specs.Messages.{Rules, Fair, ToServer, Login, For, ToClient, Of, Request, Run, Reply, Programs, Does, Reads, is_some}
-use Rattle.model.specs.Client.{Client, ClientChannel, Command, LogIn, Start, Refusal, refusal, number_of, Phase, Running, Refused, Closed, held_count, bad_number}
-use Rattle.model.specs.Server.{Server, ServerChannel, number_at, is_live, is_over, is_empty, is_part}
-use Rattle.model.specs.World.{World, Event, User, Turn, ArriveThere, ArriveHere, CutHere, CutThere, Connect, Time, after, can_connect}
+use Rattle.model.specs.Keyed.{numbers, Rising, every}
+use Rattle.model.specs.Messages.{Rules, Fair, Programs, is_some}
+use Rattle.model.specs.Client.{ClientChannel, Command, LogIn, Start, Refusal, refusal, number_of, Closed}
+use Rattle.model.specs.Server.{ServerChannel, number_at, is_over, is_empty}
+use Rattle.model.specs.World.{World, Event, User, Turn, ArriveThere, ArriveHere, CutHere, CutThere, Connect, Time, after}
 use Rattle.model.specs.History.{comes_up, Obeyed, Began, Ran}
 
 module _ {S E : Type 0} where

@@ -1,5 +1,5 @@
 -- put and get: programs whose environment is the files, each change of which is an event of files. Assumes nothing.
-use Rattle.std.specs.Prelude.{ℕ, zero, suc, ◌+◌, ◌-◌, ◌*◌, ◌/◌, ◌%◌, min, Bool, true, false, cond, not, ◌&&◌, ◌||◌, List, [], ◌∷◌, ◌++◌, length, Some, None, Option, ◌==◌, nat_le, nat_lt}
+use Rattle.std.specs.Prelude.{ℕ, zero, suc, ◌+◌, ◌-◌, ◌*◌, ◌/◌, ◌%◌, min, Bool, true, false, cond, ◌&&◌, ◌||◌, List, [], ◌∷◌, ◌++◌, length, Some, None, Option, ◌==◌, nat_le, nat_lt}
 use Rattle.model.specs.Keyed.{find, every, numbers}
 use Rattle.model.specs.Messages.{Does, Reads, Writes, Ends, Programs}
 use Rattle.model.specs.Files.{Limits, Files, Put, Get, Event, Begin, Write, Commit, GiveUp, BeginGet, EndGet, step, same, put_number, get_number, file_of, reads, can_begin, can_commit}

@@ -1,5 +1,5 @@
 -- What is promised of put and get, and of files as the environment of programs. Assumes nothing.
-use Rattle.std.specs.Prelude.{◌≡◌, ℕ, Bool, true, false, ◌⊎◌, List, [], ◌++◌, Some, Option}
+use Rattle.std.specs.Prelude.{◌≡◌, ℕ, Bool, ◌⊎◌, List, [], ◌++◌, Some}
 use Rattle.model.specs.Keyed.{find}
 use Rattle.model.specs.Messages.{Rules, Does}
 use Rattle.model.specs.World

@@ -1,7 +1,7 @@
 -- Programs that are rows of actions, one a turn; a row that comes to its end begins again. Assumes nothing.
-use Rattle.std.specs.Prelude.{ℕ, Bool, true, false, cond, ◌||◌, ◌⊎◌, List, [], ◌∷◌, ◌++◌}
+use Rattle.std.specs.Prelude.{ℕ, Bool, false, cond, ◌||◌, ◌⊎◌, List, [], ◌∷◌, ◌++◌}
 use Rattle.std.proofs.Common.{inl, inr}
-use Rattle.model.specs.Messages.{Does, Reads, Writes, Ends, GoesOn, Programs}
+use Rattle.model.specs.Messages.{Does, GoesOn, Programs}
 
 -- row: all its actions; left: from the next one on; got: all that it read; told: whether it was told that no more will come
 pub record Playing : Type 0 where

@@ -1,7 +1,7 @@
 -- The server: its channels with their programs, what it does at a message and in a program's turn, and what it then sends by itself. Assumes nothing.
-use Rattle.std.specs.Prelude.{ℕ, zero, suc, ◌+◌, ◌-◌, ◌<◌, ◌≤◌, min, Bool, true, false, cond, not, ◌&&◌, ◌||◌, List, [], ◌∷◌, ◌++◌, map, length, take, drop, Some, None, Ok, Err, Option, Result, ◌==◌, nat_le, nat_lt}
-use Rattle.model.specs.Keyed.{find, change, numbers, count, every, is_in, above, gather, each}
-use Rattle.model.specs.Messages.{Rules, Request, Run, Input, OutputCredit, Eof, Close, Reply, Runs, Output, InputCredit, Exit, ToServer, Login, Tick, For, ToClient, Accepted, Of, Fault, OutOfTurn, Uncountable, NeverStarted, BeyondWindow, TooManyTries, Does, Reads, Writes, Ends, GoesOn, Programs, Did, did, parts, ready, is_some}
+use Rattle.std.specs.Prelude.{ℕ, zero, suc, ◌+◌, ◌-◌, Bool, true, false, cond, not, ◌&&◌, ◌||◌, List, [], ◌∷◌, ◌++◌, length, take, drop, Some, None, Ok, Err, Option, Result, ◌==◌, nat_le, nat_lt}
+use Rattle.model.specs.Keyed.{find, change, count, every, is_in, above, gather, each}
+use Rattle.model.specs.Messages.{Rules, Request, Run, Input, OutputCredit, Eof, Close, Reply, Runs, Output, InputCredit, Exit, ToServer, Login, Tick, For, ToClient, Accepted, Of, Fault, OutOfTurn, Uncountable, NeverStarted, BeyondWindow, Does, Reads, Writes, Ends, GoesOn, Programs, Did, did, parts, ready, is_some}
 
 -- user: as whom it runs; state: the program's; input: all that came; read: how much of it the program read; eof: no more will come;
 -- wrote: all that the program wrote; sent: how much of it was sent; may: how much of it the client had room for in all;

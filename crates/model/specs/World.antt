@@ -1,5 +1,5 @@
 -- Both sides, the two ways between them, which keep order, and whatever may happen. Assumes nothing.
-use Rattle.std.specs.Prelude.{ℕ, zero, suc, ◌+◌, Bool, true, false, cond, not, ◌&&◌, ◌||◌, List, [], ◌∷◌, ◌++◌}
+use Rattle.std.specs.Prelude.{ℕ, suc, Bool, cond, not, ◌&&◌, List, [], ◌∷◌, ◌++◌}
 use Rattle.model.specs.Messages.{Rules, ToServer, ToClient, Programs, Did}
 use Rattle.model.specs.Client.{Client, new_client, Command, obey, take_in, cut_client}
 use Rattle.model.specs.Server.{Server, new_server, serve, turn, lose, is_empty}
