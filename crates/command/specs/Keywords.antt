@@ -1,5 +1,5 @@
 -- The words that a line begins with.
-use Rattle.std.specs.Prelude.{ℕ, Bool, cond, List, [], ◌∷◌, Some, None, codes, Option}
+use Rattle.std.specs.Prelude.{ℕ, cond, List, [], ◌∷◌, Some, None, codes, Option}
 use Rattle.std.specs.Str.{bytes_eq}
 use Rattle.command.specs.declared.keyword.Keyword.{Keyword}
 use Rattle.command.specs.declared.keyword.Keyword.TheVariants.{User, May, Program, Login, Run, Input, Close, Take, Turn, Round, Arrive, Tick, Cut, Connect}

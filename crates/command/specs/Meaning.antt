@@ -3,8 +3,7 @@ use Rattle.std.specs.Prelude.{ℕ, Bool, true, false, cond, List, [], ◌∷◌,
 use Rattle.std.specs.Option.{option_map}
 use Rattle.std.specs.Str.{bytes_eq}
 use Rattle.token.specs.Number.{number_of}
-use Rattle.command.specs.Arguments.{one_of, two_of}
-use Rattle.command.specs.Orders.{Order, user, may, login, run, close, takes, turn, arrive, cuts}
+use Rattle.command.specs.Orders.{Order}
 use Rattle.command.specs.declared.kinds.Ends.{Ends}
 use Rattle.command.specs.declared.kinds.Ends.TheVariants as ends
 use Rattle.command.specs.declared.kinds.Way.{Way}

@@ -1,6 +1,5 @@
 -- What a line of a script says, apart from where its bytes are kept.
-use Rattle.std.specs.Prelude.{ℕ, ◌<◌, ◌≤◌, Bool, List, map, length, vec_items, Vec}
-use Rattle.std.specs.List.{AllByRecursion as All}
+use Rattle.std.specs.Prelude.{ℕ, Bool, List, map, vec_items, Vec}
 use Rattle.std.specs.declared.alloc.Global.{Global}
 use Rattle.command.specs.declared.kinds.Action.{Action}
 use Rattle.command.specs.declared.kinds.Action.TheVariants as a

@@ -1,4 +1,6 @@
 // Reads a script from standard input, and prints what is said of it.
+#![tactic(auto)]
+
 use script::report::report;
 use std::io;
 use std::io::{Read, Write};

@@ -1,9 +1,7 @@
 -- What is written of good commands is read as them.
-use Rattle.std.proofs.Common.{◌≡◌, ℕ, ◌+◌, ◌^◌, ◌<◌, ◌≤◌, Bool, true, false, List, [], ◌∷◌, ◌++◌, length, Some, None, Ok, Err, codes, decimal, Option, Result, sym, refl, ap, ◌∙◌, subst, ap₂, append_assoc, arith}
+use Rattle.std.proofs.Common.{◌≡◌, ℕ, ◌+◌, ◌^◌, ◌<◌, Bool, true, false, List, [], ◌∷◌, ◌++◌, Some, Ok, codes, decimal, sym, refl, ap, ◌∙◌, subst, ap₂, append_assoc, arith}
 use Rattle.std.specs.Option.{option_map}
-use Rattle.std.specs.List.{AllByRecursion as All}
-use Rattle.token.specs.Bytes.{bytes_of}
-use Rattle.token.specs.Number.{number_of}
+use Rattle.std.specs.List.{AllByRecursion}
 use Rattle.token.specs.Words.{cut_at, words_of}
 use Rattle.token.specs.Written.{quoted_of, unwords_of}
 use Rattle.token.proofs.Back.{number-back, number-kept}
@@ -12,7 +10,7 @@ use Rattle.token.proofs.Whole.{Kept, words_back, cut-back}
 use Rattle.command.specs.Keywords.{keyword_of, named}
 use Rattle.command.specs.Meaning.{user_of, byte_of, short_of, wide_of, open_of, way_of, ends_of, both}
 use Rattle.command.specs.Orders.{Step, read, write, end, go, Order, user, may, program, login, run, input, close, takes, turn, round, arrive, tick, cuts, connect}
-use Rattle.command.specs.Programs.{counted_of, action_of, ahead, steps_of, limited}
+use Rattle.command.specs.Programs.{counted_of, ahead, steps_of, limited}
 use Rattle.command.specs.Said.{command_of}
 use Rattle.command.specs.declared.keyword.Keyword.{Keyword}
 use Rattle.command.specs.declared.keyword.Keyword.TheVariants as k
@@ -21,9 +19,9 @@ use Rattle.command.specs.declared.kinds.Ends.TheVariants as ends
 use Rattle.command.specs.declared.kinds.Way.{Way}
 use Rattle.command.specs.declared.kinds.Way.TheVariants as way
 use Rattle.command.proofs.Rows.{steps-go, steps-two, limit-in}
-use Rattle.script.specs.Good.{GoodUser, GoodByte, GoodShort, GoodWide, GoodBytes, GoodStep, Good, ReadsBack}
-use Rattle.script.specs.Lines.{called_of, worded_of, line_of, lines_of, before, then, from_line, script_of}
-use Rattle.script.specs.Written.{step_words, steps_words, open_word, way_word, ends_word, words_for, line_for, written_of}
+use Rattle.script.specs.Good.{GoodUser, GoodByte, GoodShort, GoodWide, GoodStep, Good, ReadsBack}
+use Rattle.script.specs.Lines.{called_of, worded_of, line_of, lines_of, then, from_line}
+use Rattle.script.specs.Written.{steps_words, open_word, way_word, ends_word, line_for, written_of}
 use Rattle.script.proofs.Lines.{By, cut-lines}
 
 user-back : (u : ℕ) → GoodUser u → user_of (decimal u) ≡ Some u
@@ -66,7 +64,7 @@ ends-kept ends.Here = (refl, omega arith)
 ends-kept ends.Far = (refl, omega arith)
 ends-kept ends.Both = (refl, omega arith)
 
-steps_back : (ss : List Step) → All GoodStep ss → steps_of (steps_words ss) ≡ Some ss
+steps_back : (ss : List Step) → AllByRecursion GoodStep ss → steps_of (steps_words ss) ≡ Some ss
 unfolding steps_of
 steps_back [] g = refl
 steps_back (read n ∷ ss) g =
@@ -77,7 +75,7 @@ steps_back (end n ∷ ss) g =
     steps-two (codes "end") (decimal n) (steps_words ss) refl ∙ ap₂ ahead (ap (counted_of (codes "end")) (short_back n g.0)) (steps_back ss g.1)
 steps_back (go ∷ ss) g = steps-go (codes "go") (steps_words ss) refl ∙ ap (ahead (Some go)) (steps_back ss g.1)
 
-steps-kept : (ss : List Step) → All GoodStep ss → All Kept (steps_words ss)
+steps-kept : (ss : List Step) → AllByRecursion GoodStep ss → AllByRecursion Kept (steps_words ss)
 steps-kept [] g = tt
 steps-kept (read n ∷ ss) g = ((refl, omega arith), (number-kept n (omega (arith, g.0)), steps-kept ss g.1))
 steps-kept (write bs ∷ ss) g = ((refl, omega arith), (bytes-kept bs g.0.0, steps-kept ss g.1))
@@ -92,7 +90,7 @@ record Spelled (o : Order) : Type 0 where
   line : line_for o ≡ unwords_of (word ∷ others)
   named-so : keyword_of word ≡ Some key
   first : Kept word
-  rest : All Kept others
+  rest : AllByRecursion Kept others
   says : command_of key others ≡ Some o
 
 fits : (n : ℕ) → GoodWide n → n < 2 ^ 64
@@ -129,7 +127,7 @@ cut_line o text s =
     ∙ cut-back s.word s.others text s.first s.rest
     ∙ ap (λ l. Some (l, text)) (sym s.line)
 
-from_back : (n : ℕ) (os : List Order) → All Good os → from_line n (lines_of (written_of os)) ≡ Ok os
+from_back : (n : ℕ) (os : List Order) → AllByRecursion Good os → from_line n (lines_of (written_of os)) ≡ Ok os
 unfolding from_line lines_of words_of
 from_back n [] g = refl
 from_back n (o ∷ os) g =

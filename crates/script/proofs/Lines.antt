@@ -8,7 +8,7 @@ use Rattle.script.specs.declared.reader.Unreadable.{Unreadable}
 use Rattle.script.specs.declared.reader.Unreadable.TheVariants.{Line, NoMemory}
 use Rattle.token.specs.Words.{cut_at, after, words_of}
 use Rattle.command.specs.Orders.{Order}
-use Rattle.script.specs.Lines.{line_of, grown, lines_of, before, then, from_line, script_of}
+use Rattle.script.specs.Lines.{line_of, grown, lines_of, then, from_line, script_of}
 
 -- what a cut at the first newline says of the lines
 abbrev pub By : List ℕ → Option (List ℕ × List ℕ) → Type 0

@@ -1,7 +1,7 @@
 -- What is read is good commands.
-use Rattle.std.proofs.Common.{◌≡◌, ℕ, ◌+◌, ◌≤◌, Bool, true, false, cond, ◌&&◌, leb, List, [], ◌∷◌, length, IfOk, Some, None, Ok, Err, codes, Option, Result, refl}
+use Rattle.std.proofs.Common.{ℕ, ◌+◌, ◌≤◌, ◌&&◌, leb, List, [], ◌∷◌, length, IfOk, Some, None, Ok, Err, codes, Option, Result}
 use Rattle.std.specs.Option.{option_map}
-use Rattle.std.specs.List.{AllByRecursion as All}
+use Rattle.std.specs.List.{AllByRecursion}
 use Rattle.std.specs.Str.{bytes_eq}
 use Rattle.std.proofs.lemmas.Bool.{cond_both, and_parts, leb-true}
 use Rattle.token.specs.Bytes.{bytes_of}
@@ -11,13 +11,13 @@ use Rattle.token.proofs.Sound.{If, number-range, bytes-text}
 use Rattle.command.specs.Arguments.{one_of, two_of}
 use Rattle.command.specs.Keywords.{keyword_of}
 use Rattle.command.specs.Meaning.{user_of, byte_of, short_of, wide_of, open_of, way_of, ends_of, none, read_one, both, read_two}
-use Rattle.command.specs.Orders.{Step, read, write, end, go, Order, user, may, program, login, run, input, close, takes, turn, round, arrive, tick, cuts, connect}
+use Rattle.command.specs.Orders.{Step, write, go, Order, user, may, program, login, run, input, close, takes, turn, round, arrive, tick, cuts, connect}
 use Rattle.command.specs.Programs.{counted_of, action_of, ahead, is_go, steps_of, limited}
 use Rattle.command.specs.Said.{command_of}
 use Rattle.command.specs.declared.keyword.Keyword.{Keyword}
 use Rattle.command.specs.declared.keyword.Keyword.TheVariants as k
 use Rattle.script.specs.Good.{GoodUser, GoodByte, GoodShort, GoodWide, GoodBytes, GoodStep, GoodRow, Good, ReadsGood}
-use Rattle.script.specs.Lines.{called_of, worded_of, line_of, lines_of, before, then, from_line}
+use Rattle.script.specs.Lines.{called_of, worded_of, line_of, lines_of, then, from_line}
 
 only_high : (low high : ℕ) (o : Option ℕ) → If o (λ n. (low ≤ n) × (n ≤ high)) → If o (λ n. n ≤ high)
 only_high low high None h = tt
@@ -74,19 +74,19 @@ action-good w x =
     made None g = tt
     made (Some bs) g = g
 
-ahead-good : (o : Option Step) (r : Option (List Step)) → If o GoodStep → If r (All GoodStep) → If (ahead o r) (All GoodStep)
+ahead-good : (o : Option Step) (r : Option (List Step)) → If o GoodStep → If r (AllByRecursion GoodStep) → If (ahead o r) (AllByRecursion GoodStep)
 ahead-good None r g h = tt
 ahead-good (Some s) None g h = tt
 ahead-good (Some s) (Some ss) g h = (g, h)
 
-steps-good : (ws : List (List ℕ)) → If (steps_of ws) (All GoodStep)
+steps-good : (ws : List (List ℕ)) → If (steps_of ws) (AllByRecursion GoodStep)
 unfolding steps_of
 steps-good [] = tt
-steps-good (w ∷ []) = cond_both (is_go w) _ _ (λ o. If o (All GoodStep)) (λ t. (tt, tt)) (λ f. tt)
+steps-good (w ∷ []) = cond_both (is_go w) _ _ (λ o. If o (AllByRecursion GoodStep)) (λ t. (tt, tt)) (λ f. tt)
 steps-good (w ∷ x ∷ ws) =
-    cond_both (is_go w) _ _ (λ o. If o (All GoodStep)) (λ t. ahead-good (Some go) (steps_of (x ∷ ws)) tt (steps-good (x ∷ ws))) (λ f. ahead-good (action_of w x) (steps_of ws) (action-good w x) (steps-good ws))
+    cond_both (is_go w) _ _ (λ o. If o (AllByRecursion GoodStep)) (λ t. ahead-good (Some go) (steps_of (x ∷ ws)) tt (steps-good (x ∷ ws))) (λ f. ahead-good (action_of w x) (steps_of ws) (action-good w x) (steps-good ws))
 
-limited-good : (o : Option (List Step)) → If o (All GoodStep) → If (limited o) GoodRow
+limited-good : (o : Option (List Step)) → If o (AllByRecursion GoodStep) → If (limited o) GoodRow
 limited-good None g = tt
 limited-good (Some ss) g =
     cond_both (leb 1 (length ss) && leb (length ss) 64) _ _ (λ o. If o GoodRow)
@@ -127,7 +127,7 @@ line-good l = go (words_of Plain [] l)
     go (Some (w ∷ ws)) = called-good (keyword_of w) ws
 
 abbrev GoodSo : Result (List Order) ℕ → Type 0
-GoodSo r = IfOk r (All Good)
+GoodSo r = IfOk r (AllByRecursion Good)
 
 then-good : (n : ℕ) (said : Option (Option Order)) (rest : Result (List Order) ℕ) → If said (λ o. If o Good) → GoodSo rest → GoodSo (then n said rest)
 then-good n None rest g h = tt

@@ -1,6 +1,6 @@
 -- Commands whose values are in range, and what is promised of scripts of them.
 use Rattle.std.specs.Prelude.{◌≡◌, ℕ, ◌<◌, ◌≤◌, List, length, IfOk, Ok}
-use Rattle.std.specs.List.{AllByRecursion as All}
+use Rattle.std.specs.List.{AllByRecursion}
 use Rattle.command.specs.Orders.{Step, read, write, end, go, Order, user, may, program, login, run, input, close, takes, turn, round, arrive, tick, cuts, connect}
 use Rattle.script.specs.Lines.{script_of}
 use Rattle.script.specs.Written.{written_of}
@@ -18,7 +18,7 @@ abbrev pub GoodWide : ℕ → Type 0
 GoodWide n = n ≤ 4294967295
 
 abbrev pub GoodBytes : List ℕ → Type 0
-GoodBytes bs = All (λ b. b < 256) bs × (length bs ≤ 65536)
+GoodBytes bs = AllByRecursion (λ b. b < 256) bs × (length bs ≤ 65536)
 
 abbrev pub GoodStep : Step → Type 0
 GoodStep (read k) = GoodShort k
@@ -27,7 +27,7 @@ GoodStep (end n) = GoodShort n
 GoodStep go = Unit {0}
 
 abbrev pub GoodRow : List Step → Type 0
-GoodRow ss = All GoodStep ss × (1 ≤ length ss) × (length ss ≤ 64)
+GoodRow ss = AllByRecursion GoodStep ss × (1 ≤ length ss) × (length ss ≤ 64)
 
 abbrev pub Good : Order → Type 0
 Good (user u o) = GoodUser u
@@ -47,8 +47,8 @@ Good connect = Unit {0}
 
 -- what is written of good commands is read as them
 abbrev pub ReadsBack : Type 0
-ReadsBack = (os : List Order) → All Good os → script_of (written_of os) ≡ Ok os
+ReadsBack = (os : List Order) → AllByRecursion Good os → script_of (written_of os) ≡ Ok os
 
 -- what is read is good commands
 abbrev pub ReadsGood : Type 0
-ReadsGood = (text : List ℕ) → IfOk (script_of text) (All Good)
+ReadsGood = (text : List ℕ) → IfOk (script_of text) (AllByRecursion Good)

@@ -5,7 +5,7 @@ ghost use Rattle.token.specs.Reads.{Reads};
 ghost use Rattle.command.specs.Orders.{order_of};
 ghost use Rattle.script.specs.Lines.{line_of, script_of};
 ghost use Rattle.script.specs.declared.reader.Unreadable.{Unreadable};
-ghost use Rattle.std.specs.List.{AllByRecursion as All};
+ghost use Rattle.std.specs.List.{AllByRecursion};
 ghost use Rattle.script.specs.Good.{Good};
 ghost use Rattle.script.specs.Answers.{orders, Script, Took};
 
@@ -74,7 +74,7 @@ fn take_line(
 // The commands of a script, or its first bad line.
 pub fn read(heap: Global, text: &[u8]) -> Result<Vec<Command>, Unreadable>
     ensures says { Script result (script_of text.now) }
-    ensures good { IfOk result (λ v. All Good (orders v)) }
+    ensures good { IfOk result (λ v. AllByRecursion Good (orders v)) }
 {
     let mut out = Vec::new(heap);
     let mut rest = text;

@@ -1,5 +1,5 @@
 -- Several pieces added at the end of a list.
-use Rattle.std.proofs.Common.{◌≡◌, List, ◌++◌, sym, ap, ◌∙◌, append_assoc}
+use Rattle.std.proofs.Common.{◌≡◌, List, ◌++◌, ap, ◌∙◌, append_assoc}
 
 module _ {A : Type 0} (x0 a b : List A) where
   pub then2 : {x1 x2 : List A} → x1 ≡ x0 ++ a → x2 ≡ x1 ++ b → x2 ≡ x0 ++ (a ++ b)

@@ -1,8 +1,8 @@
 -- What is written of a number is read as it.
-use Rattle.std.proofs.Common.{◌≡◌, ℕ, ◌+◌, ◌-◌, ◌*◌, ◌/◌, ◌%◌, ◌^◌, ◌<◌, ◌≤◌, Bool, true, false, cond, not, eqb, leb, List, [], ◌∷◌, ◌++◌, length, Some, None, decimal, Option, sym, refl, ap, ◌∙◌, subst, arith, length-append}
+use Rattle.std.proofs.Common.{◌≡◌, ℕ, ◌+◌, ◌-◌, ◌*◌, ◌/◌, ◌%◌, ◌^◌, ◌<◌, ◌≤◌, Bool, true, false, cond, List, [], ◌∷◌, ◌++◌, length, Some, None, decimal, sym, refl, ap, ◌∙◌, arith, length-append}
 use Rattle.std.specs.Char.{is_ascii_digit}
 use Rattle.std.proofs.lemmas.Fmt.{decimal_by_steps}
-use Rattle.std.proofs.lemmas.Bool.{cond-true, cond-false, and_from, or_from, not_from_false, le-leb, ne_eqb}
+use Rattle.std.proofs.lemmas.Bool.{cond-true, and_from, or_from, not_from_false, le-leb, ne_eqb}
 use Rattle.token.specs.declared.mode.Mode.TheVariants.{Plain, Quoted}
 use Rattle.token.specs.Number.{digits_of, within, number_of}
 use Rattle.token.proofs.Digits.{number-some, inside}

@@ -1,13 +1,12 @@
 -- What is written of bytes is read as them.
-use Rattle.std.proofs.Common.{◌≡◌, ℕ, ◌+◌, ◌-◌, ◌*◌, ◌/◌, ◌%◌, ◌<◌, ◌≤◌, Bool, true, false, cond, not, eqb, ltb, leb, ◌⊎◌, List, [], ◌∷◌, ◌++◌, length, Some, None, Option, sym, refl, ap, ◌∙◌, subst, inl, inr, ⊎_elim, append_assoc, append-nil, arith}
+use Rattle.std.proofs.Common.{◌≡◌, ℕ, ◌+◌, ◌-◌, ◌*◌, ◌/◌, ◌%◌, ◌<◌, ◌≤◌, true, eqb, leb, List, [], ◌∷◌, ◌++◌, length, Some, None, sym, refl, ap, ◌∙◌, subst, ⊎_elim, append_assoc, append-nil, arith}
 use Rattle.std.specs.Option.{option_map}
 use Rattle.std.specs.List.{AllByRecursion as All}
-use Rattle.std.proofs.lemmas.Bool.{cond-true, cond-false, and_from, and_left, and_right, or_from, or_left, or_right, and_parts, and_cases, cases_Bool, cases_lt, cases_eq, not_from_false, leb-true, leb-false, le-leb, lt-leb, lt-ltb, le-ltb, ne_eqb, eq-eqb}
+use Rattle.std.proofs.lemmas.Bool.{cond-true, cond-false, and_from, and_right, or_from, and_parts, cases_Bool, cases_lt, cases_eq, not_from_false, leb-true, le-leb, lt-leb, lt-ltb, le-ltb, ne_eqb}
 use Rattle.token.specs.declared.mode.Mode.TheVariants.{Plain, Quoted, Escaped}
-use Rattle.token.specs.declared.quote.Quote.{Quote}
-use Rattle.token.specs.declared.quote.Quote.TheVariants.{Body, Escape, High, Low, Closed}
+use Rattle.token.specs.declared.quote.Quote.TheVariants.{Body, Low}
 use Rattle.token.specs.Bytes.{bytes_of, repeat_of, times_of}
-use Rattle.token.specs.Quotes.{hex_of, step_of, told, unquote_of}
+use Rattle.token.specs.Quotes.{hex_of, told, unquote_of}
 use Rattle.token.specs.Written.{hex_digit, escape_of, escapes_of, quoted_of}
 use Rattle.token.proofs.Unquote.{first, first-first, first-none}
 use Rattle.token.proofs.Whole.{whole_of, Kept}

@@ -1,5 +1,5 @@
 -- The exit of a `?` in a reader.
-use Rattle.std.proofs.Common.{◌≡◌, IsErrAnd, Some, None, Ok, Err, Option, Result, sym, refl, subst}
+use Rattle.std.proofs.Common.{◌≡◌, IsErrAnd, None, Ok, Err, Option, Result, sym, subst}
 use Rattle.token.specs.declared.fault.Fault.{Fault}
 use Rattle.token.specs.declared.fault.Fault.TheVariants.{Bad, NoMemory}
 use Rattle.token.specs.Reads.{Reads}

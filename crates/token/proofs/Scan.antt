@@ -1,11 +1,11 @@
 -- The words of a line, one byte on.
-use Rattle.std.proofs.Common.{◌≡◌, ℕ, ◌+◌, ◌-◌, ◌<◌, ◌≤◌, Bool, true, false, cond, eqb, List, [], ◌∷◌, ◌++◌, map, length, get_or, take, drop, Some, None, Option, sym, refl, ap, ◌∙◌, subst, append_assoc, arith, length-drop}
+use Rattle.std.proofs.Common.{◌≡◌, ℕ, ◌+◌, ◌-◌, ◌<◌, ◌≤◌, true, false, eqb, List, [], ◌∷◌, ◌++◌, length, get_or, take, drop, Some, None, Option, sym, refl, ap, ◌∙◌, append_assoc, arith, length-drop}
 use Rattle.std.specs.Option.{option_map}
-use Rattle.std.proofs.lemmas.List.{at_drop_more, at_drop_all, take_more, get_or-drop, map-append}
+use Rattle.std.proofs.lemmas.List.{at_drop_more, at_drop_all, take_more, get_or-drop}
 use Rattle.std.proofs.lemmas.Bool.{cond-true, cond-false, eq-eqb, ne_eqb, true≢false}
 use Rattle.token.specs.declared.mode.Mode.{Mode}
 use Rattle.token.specs.declared.mode.Mode.TheVariants.{Plain, Quoted, Escaped}
-use Rattle.token.specs.Words.{nows, begun, closed, ends_word, after_byte, words_of}
+use Rattle.token.specs.Words.{begun, closed, ends_word, after_byte, words_of}
 
 -- words that come before others
 abbrev pub led : List (List ℕ) → Option (List (List ℕ)) → Option (List (List ℕ))

@@ -1,12 +1,12 @@
 -- Words that stay together in a line: no byte of them ends a word or a line, and no quote stays open.
-use Rattle.std.proofs.Common.{◌≡◌, ℕ, ◌+◌, ◌<◌, ◌≤◌, Bool, true, false, cond, not, ◌&&◌, eqb, List, [], ◌∷◌, ◌++◌, length, Some, None, Option, sym, refl, ap, ◌∙◌, subst, append_assoc, append-nil, arith}
+use Rattle.std.proofs.Common.{◌≡◌, ℕ, ◌<◌, Bool, true, false, not, ◌&&◌, eqb, List, [], ◌∷◌, ◌++◌, length, Some, sym, refl, ap, ◌∙◌, append_assoc, append-nil, arith}
 use Rattle.std.specs.Option.{option_map}
 use Rattle.std.specs.List.{AllByRecursion as All}
-use Rattle.std.proofs.lemmas.Bool.{cond-true, cond-false, and_parts, and_from, not-true, true≢false}
+use Rattle.std.proofs.lemmas.Bool.{cond-false, and_parts, and_from, not-true, true≢false}
 use Rattle.token.specs.declared.mode.Mode.{Mode}
 use Rattle.token.specs.declared.mode.Mode.TheVariants.{Plain, Quoted, Escaped}
 use Rattle.token.specs.Written.{spaced_of, unwords_of}
-use Rattle.token.specs.Words.{after, begun, closed, cut_at, ends_word, after_byte, words_of}
+use Rattle.token.specs.Words.{after, begun, cut_at, ends_word, after_byte, words_of}
 use Rattle.token.proofs.Cuts.{after-after, cut-none}
 use Rattle.token.proofs.Scan.{led}
 

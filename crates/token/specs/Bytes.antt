@@ -1,5 +1,5 @@
 -- The bytes that a word stands for.
-use Rattle.std.specs.Prelude.{ℕ, zero, suc, ◌*◌, Bool, false, cond, List, [], ◌∷◌, ◌++◌, length, Some, None, Option, ◌==◌, nat_le}
+use Rattle.std.specs.Prelude.{ℕ, zero, suc, ◌*◌, cond, List, [], ◌∷◌, ◌++◌, length, Some, None, Option, ◌==◌, nat_le}
 use Rattle.token.specs.declared.quote.Quote.TheVariants.{Body}
 use Rattle.token.specs.Number.{number_of}
 use Rattle.token.specs.Quotes.{unquote_of}

@@ -1,5 +1,5 @@
 -- What stands between two quotes.
-use Rattle.std.specs.Prelude.{ℕ, ◌+◌, ◌-◌, ◌*◌, ◌<◌, Bool, true, false, cond, ◌&&◌, ◌||◌, List, [], ◌∷◌, ◌++◌, Some, None, Option, ◌==◌, nat_le}
+use Rattle.std.specs.Prelude.{ℕ, ◌+◌, ◌-◌, ◌*◌, ◌<◌, cond, ◌&&◌, ◌||◌, List, [], ◌∷◌, ◌++◌, Some, None, Option, ◌==◌, nat_le}
 use Rattle.std.specs.Option.{option_map, option_to_list}
 use Rattle.token.specs.declared.quote.Quote.{Quote}
 use Rattle.token.specs.declared.quote.Quote.TheVariants.{Body, Escape, High, Low, Closed}

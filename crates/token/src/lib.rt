@@ -1,4 +1,6 @@
 // The words of a line of a script, and the numbers and bytes that words stand for.
+#![tactic(auto)]
+
 pub mod bytes;
 pub mod fault;
 mod mode;

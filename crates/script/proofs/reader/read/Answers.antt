@@ -1,5 +1,5 @@
-use Rattle.std.proofs.Common.{◌≡◌, [], map, IfOk, Ok, sym, ap, ◌∙◌, subst, arith}
-use Rattle.std.specs.List.{AllByRecursion as All}
+use Rattle.std.proofs.Common.{◌≡◌, [], map, IfOk, Ok, sym, subst, arith}
+use Rattle.std.specs.List.{AllByRecursion}
 use Rattle.std.proofs.lemmas.Result.{IfOk-from_err}
 use Rattle.script.specs.Good.{Good}
 use Rattle.script.specs.Lines.{script_of}
@@ -12,10 +12,10 @@ use Rattle.script.proofs.reader.read.Goals as goal
 pub loop-line-init : goal.loop-line-init
 loop-line-init c = subst (λ l. Reading c.args.text.now (map order_of l) 0 c.args.text.now) (sym c.new-out.ensures.items) (reading-none _)
 
-pub returns-in-err-take-line : goal.returns-in-err-take-line
-returns-in-err-take-line c = record {
-  says = script-broken _ _ _ _ [] (orders c.take-line.new.out) _ c.from-residual.ensures.1 c.in-err-take-line.ensures (reading-bad _ _ _ _ c.loop-line.invariant _ _ (sym c.in-Some.ensures));
-  good = IfOk-from_err _ _ c.from-residual.ensures.0;
+pub returns-in_err-take_line : goal.returns-in_err-take_line
+returns-in_err-take_line c = record {
+  says = script-broken _ _ _ _ [] (orders c.take_line.new.out) _ c.from_residual.ensures.1 c.in_err-take_line.ensures (reading-bad _ _ _ _ c.loop-line.invariant _ _ (sym c.in-Some.ensures));
+  good = IfOk-from_err _ _ c.from_residual.ensures.0;
 }
 
 pub loop-line-smaller : goal.loop-line-smaller
@@ -23,22 +23,22 @@ loop-line-smaller c = omega (arith, line-within _ _ _ _ c.loop-line.invariant _ 
 
 pub loop-line-preserved : goal.loop-line-preserved
 loop-line-preserved c =
-    let took = c.in-ok-take-line.ensures in
+    let took = c.in_ok-take_line.ensures in
     reading-more _ _ _ _ c.loop-line.invariant _ _ _ _ (sym c.in-Some.ensures) took.1 took.2
 
-pub returns-in-err-take-line-2 : goal.returns-in-err-take-line-2
-returns-in-err-take-line-2 c = record {
-  says = script-broken _ _ _ _ [] (orders c.take-line-2.new.out) _ c.from-residual-in-err-take-line-2.ensures.1 c.in-err-take-line-2.ensures (reading-last-bad _ _ _ _ c.loop-line.invariant (sym c.in-default.ensures));
-  good = IfOk-from_err _ _ c.from-residual-in-err-take-line-2.ensures.0;
+pub returns-in_err-take_line-2 : goal.returns-in_err-take_line-2
+returns-in_err-take_line-2 c = record {
+  says = script-broken _ _ _ _ [] (orders c.take_line-2.new.out) _ c.from_residual-in_err-take_line-2.ensures.1 c.in_err-take_line-2.ensures (reading-last-bad _ _ _ _ c.loop-line.invariant (sym c.in_default.ensures));
+  good = IfOk-from_err _ _ c.from_residual-in_err-take_line-2.ensures.0;
 }
 
-said : (c : goal.In-ok-take-line-2) → script_of c.args.text.now ≡ Ok (orders c.take-line-2.new.out)
+said : (c : goal.In_ok-take_line-2) → script_of c.args.text.now ≡ Ok (orders c.take_line-2.new.out)
 said c =
-    let took = c.in-ok-take-line-2.ensures in
-    reading-all _ _ _ _ c.loop-line.invariant _ _ (sym c.in-default.ensures) took.1 took.2
+    let took = c.in_ok-take_line-2.ensures in
+    reading-all _ _ _ _ c.loop-line.invariant _ _ (sym c.in_default.ensures) took.1 took.2
 
 pub returns : goal.returns
 returns c = record {
   says = said c;
-  good = subst (λ r. IfOk r (All Good)) (said c) (reads-good c.args.text.now);
+  good = subst (λ r. IfOk r (AllByRecursion Good)) (said c) (reads-good c.args.text.now);
 }

@@ -3,4 +3,4 @@ use Rattle.script.proofs.Adding.{more-words}
 use Rattle.script.proofs.writer.counted.Goals as goal
 
 pub returns : goal.returns
-returns c = more-words (vec_items c.args.out.now) (c.args.word.now ∷ []) (decimal c.args.number ∷ []) c.in-ok-add-word.ensures c.in-ok-add-number.ensures
+returns c = more-words (vec_items c.args.out.now) (c.args.word.now ∷ []) (decimal c.args.number ∷ []) c.in_ok-add_word.ensures c.in_ok-add_number.ensures

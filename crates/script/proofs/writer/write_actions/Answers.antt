@@ -1,5 +1,4 @@
-use Rattle.std.proofs.Common.{◌≡◌, [], ◌++◌, map, take, vec_items, sym, ap, ◌∙◌, append-nil, take_all}
-use Rattle.std.proofs.lemmas.List.{flat_map_more, map_more}
+use Rattle.std.proofs.Common.{◌++◌, map, take, vec_items, sym, ap, ◌∙◌, append-nil, take_all}
 use Rattle.token.specs.Written.{spaced_of}
 use Rattle.command.specs.Orders.{step_of}
 use Rattle.script.specs.Written.{step_words, steps_words}
@@ -14,7 +13,7 @@ loop-a-preserved c =
     let x0 = vec_items c.args.out.now in
     let acts = c.args.actions.now in
     let i = c.loop-a.a-index in
-    more-words x0 (steps_words (map step_of (take i acts))) (step_words (step_of c.a-item.result)) c.loop-a.invariant c.in-ok-write-action.ensures
+    more-words x0 (steps_words (map step_of (take i acts))) (step_words (step_of c.a-item.result)) c.loop-a.invariant c.in_ok-write_action.ensures
     ∙ ap (λ l. x0 ++ spaced_of l) (row_more step_words step_of acts i _ c.loop-a-test.true c.a-item.is)
 
 pub returns : goal.returns

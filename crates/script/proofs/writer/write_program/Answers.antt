@@ -5,4 +5,4 @@ use Rattle.script.proofs.Adding.{line-words}
 use Rattle.script.proofs.writer.write_program.Goals as goal
 
 pub returns : goal.returns
-returns c = line-words (vec_items c.args.out.now) (codes "program") (decimal c.args.command ∷ []) (steps_words (map step_of c.args.actions.now)) c.in-ok-call.ensures c.in-ok-write-actions.ensures
+returns c = line-words (vec_items c.args.out.now) (codes "program") (decimal c.args.command ∷ []) (steps_words (map step_of c.args.actions.now)) c.in_ok-call.ensures c.in_ok-write_actions.ensures
