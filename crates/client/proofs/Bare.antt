@@ -1,14 +1,13 @@
 -- One channel: what it sends by itself does not depend on its past; what flushing makes of it; its next request.
-use Rattle.std.proofs.Common.{◌≡◌, ℕ, zero, suc, ◌+◌, ◌-◌, ◌<◌, ◌≤◌, min, Bool, true, false, cond, not, ◌&&◌, ◌||◌, eqb, ltb, ◌⊎◌, List, [], ◌∷◌, ◌++◌, length, get_or, take, drop, Some, None, Option, sym, refl, ap, ◌∙◌, subst, inl, inr, ⊎_elim, arith}
-use Rattle.std.proofs.lemmas.List.{length-take, length-drop, length-append, drop_at, append_assoc, take-append-drop, nil_from_length}
+use Rattle.std.proofs.Common.{◌≡◌, ℕ, ◌+◌, ◌-◌, Bool, true, false, cond, not, ◌&&◌, ◌||◌, eqb, List, [], ◌∷◌, ◌++◌, length, sym, refl, ap, ◌∙◌, ⊎_elim, arith}
+use Rattle.std.proofs.lemmas.List.{length-append, drop_at}
 use Rattle.std.proofs.lemmas.Bool.Decides.{nat_tests}
-use Rattle.std.proofs.lemmas.Bool.{cases_Bool, cond-true, cond-false, cases_lt, eqb-true, eqb-false}
-use Rattle.model.specs.Messages.{Request, Run, Input, OutputCredit, Eof, Close, parts, is_some}
-use Rattle.model.specs.Client.{Phase, Asked, Running, Refused, Closed, ClientChannel, runs, is_held, goes, eof_now, close_now, inputs, requests, flushed, flushed_running}
+use Rattle.std.proofs.lemmas.Bool.{cases_Bool, cond-true, cond-false}
+use Rattle.model.specs.Messages.{Request, Eof, Close, parts, is_some}
+use Rattle.model.specs.Client.{Closed, ClientChannel, runs, goes, eof_now, close_now, inputs, requests, flushed, flushed_running}
 use Rattle.client_channel.specs.Kept.{Kept}
-use Rattle.client_channel.specs.Steps.{Step, step_to, goes_of, part_of, sent_of, said_of, end_of, next_of}
-use Rattle.client.specs.Stand.{phase_of, whole, limits, bare}
-use Rattle.client.proofs.Parts.{first_part, no-parts, part-front, part-back}
+use Rattle.client_channel.specs.Steps.{goes_of}
+use Rattle.client.specs.Stand.{phase_of, whole, limits}
 
 abbrev pub eof_k : Kept → Bool
 eof_k k = k.eof && (eqb (length (goes_of k)) (length k.waiting) && not k.said)

@@ -1,11 +1,11 @@
 -- How the client begins.
-use Rattle.std.proofs.Common.{◌≡◌, ℕ, ◌<◌, ◌≤◌, Bool, true, false, leb, List, [], ◌∷◌, length, get_or, replicate, sym, refl, ap, ◌∙◌, subst, ⊎_elim, arith}
+use Rattle.std.proofs.Common.{◌≡◌, ℕ, ◌<◌, Bool, true, false, List, [], length, get_or, replicate, sym, refl, ap, ◌∙◌, subst, ⊎_elim, arith}
 use Rattle.std.proofs.lemmas.List.{get_or-replicate, get_or_past, length-replicate}
 use Rattle.std.proofs.lemmas.Bool.{cases_lt, le-leb}
 use Rattle.model.specs.Keyed.{numbers, is_in, above, gather, each}
 use Rattle.model.specs.Client.{new_client}
 use Rattle.client_channel.specs.Kept.{Kept}
-use Rattle.client.specs.Stand.{Stand, none, QuietBut, StandsFor, owed_by, busy}
+use Rattle.client.specs.Stand.{none, QuietBut, StandsFor, owed_by, busy}
 use Rattle.client.proofs.Moves.{view, never}
 
 blank : (m n : ℕ) → get_or (replicate m false) n false ≡ false

@@ -1,23 +1,20 @@
 -- Each command that is obeyed, as its contract has it.
-use Rattle.std.proofs.Common.{◌≡◌, ℕ, suc, ◌+◌, ◌-◌, ◌<◌, ◌≤◌, min, Bool, true, false, cond, not, ◌&&◌, ◌||◌, eqb, ltb, leb, ◌⊎◌, List, [], ◌∷◌, ◌++◌, length, get_or, take, drop, set, Some, None, Option, sym, refl, ap, ◌∙◌, subst, inl, inr, ⊎_elim, arith}
-use Rattle.std.proofs.lemmas.List.{length-append, append_assoc, append-nil, take-append-drop, length-take, drop_at}
-use Rattle.std.proofs.lemmas.Bool.{cases_Bool, or_from, not_from_true, le-leb, le-ltb, lt-ltb, cond-false}
-use Rattle.model.specs.Keyed.{find, change}
+use Rattle.std.proofs.Common.{◌≡◌, ℕ, ◌+◌, ◌-◌, ◌<◌, ◌≤◌, min, Bool, true, false, cond, not, ltb, leb, List, [], ◌∷◌, ◌++◌, length, get_or, take, drop, set, Some, None, sym, refl, ap, ◌∙◌, subst, arith}
+use Rattle.std.proofs.lemmas.List.{length-append, append_assoc, take-append-drop, length-take, drop_at}
+use Rattle.std.proofs.lemmas.Bool.{or_from, not_from_true, le-leb, le-ltb, lt-ltb, cond-false}
+use Rattle.model.specs.Keyed.{change}
 use Rattle.model.specs.Messages as model
 use Rattle.model.specs.Messages.{Rules, real, ToServer, Did, did}
 use Rattle.model.specs.Client as side
 use Rattle.model.specs.Client.{ClientChannel, number_of, channel_at, Command, LogIn, Start, Enter, Finish, Take, command, refusal, unless, obey, obey_unless, flush, entered, finished, took_more, takeable, output_credit, with_channels}
-use Rattle.client_channel.specs.Kept.{Bytes, Kept, pair, kept, fresh}
-use Rattle.held.specs.declared.table.Entry.{Entry}
-use Rattle.held.specs.Views.{entries_of, pool_of, bytes_at}
+use Rattle.client_channel.specs.Kept.{Kept, fresh}
 use Rattle.client.specs.declared.value.Client.{Client}
-use Rattle.client.specs.View.{View, view_of, kept_at, kepts_at}
-use Rattle.client.specs.Stand.{whole, StandsFor, owed_by, busy}
-use Rattle.client.specs.Contract.{Accepts, May, Stands, owed, is_busy, Obeys, Gets}
-use Rattle.client.proofs.Standing.{Focus, focus}
-use Rattle.client.proofs.Moves.{view, Idle, idle, settled, changed, changed-sends, changed-down, told, started, owed-idle}
+use Rattle.client.specs.View.{View, view_of}
+use Rattle.client.specs.Stand.{whole, StandsFor, owed_by}
+use Rattle.client.specs.Contract.{Accepts, May, Stands, is_busy, Obeys, Gets}
+use Rattle.client.proofs.Standing.{focus}
+use Rattle.client.proofs.Moves.{view, changed, changed-sends, changed-down, told, started}
 use Rattle.client.proofs.Refusals.{enter-at, finish-at, take_at, login-is, start_is, found_at}
-use Rattle.client.proofs.Kepts.{length-kepts, kept-at}
 
 pub owed-down : (v : View) → v.up ≡ false → owed_by v ≡ []
 unfolding owed_by

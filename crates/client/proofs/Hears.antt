@@ -1,11 +1,11 @@
 -- What a reply makes of a channel, in the model and in the value.
-use Rattle.std.proofs.Common.{◌≡◌, ℕ, ◌+◌, ◌-◌, ◌<◌, ◌≤◌, Bool, true, false, cond, ltb, List, [], ◌∷◌, ◌++◌, length, Some, None, Ok, Err, Option, Result, sym, refl, ap, ◌∙◌, subst, arith}
+use Rattle.std.proofs.Common.{◌≡◌, ℕ, ◌+◌, ◌-◌, Bool, true, false, cond, ltb, List, ◌++◌, length, Some, None, Ok, Err, Option, Result, sym, refl, ap, ◌∙◌, arith}
 use Rattle.std.proofs.lemmas.List.{length-append, append_assoc}
 use Rattle.std.proofs.lemmas.Bool.Decides.{nat_tests}
-use Rattle.model.specs.Messages.{Rules, real, Reply, Runs, Output, InputCredit, Exit, Fault, OutOfTurn, BeyondWindow, Uncountable, is_some}
-use Rattle.model.specs.Client.{ClientChannel, answered, got_more, may_more, told_exit, hear, hear_in, hear_asked, hear_running}
+use Rattle.model.specs.Messages.{real, Reply, Runs, Output, InputCredit, Exit, Fault, OutOfTurn, BeyondWindow, Uncountable, is_some}
+use Rattle.model.specs.Client.{ClientChannel, answered, got_more, may_more, hear, hear_in, hear_asked, hear_running}
 use Rattle.client_channel.specs.Kept.{Kept}
-use Rattle.client_channel.specs.Steps.{runs_of, got_of, may_of, exit_of, asked_of, running_of, hear_of}
+use Rattle.client_channel.specs.Steps.{got_of, may_of, exit_of, asked_of, running_of, hear_of}
 use Rattle.client.specs.Stand.{phase_of, whole}
 
 -- the channel that stays, with the same past; or the one that was refused

@@ -1,7 +1,7 @@
 -- The channels that a table and its buffers hold: one changed, removed or added.
-use Rattle.std.proofs.Common.{◌≡◌, ℕ, suc, ◌+◌, ◌<◌, ◌≤◌, List, [], ◌∷◌, ◌++◌, map, length, get_or, take, drop, set, sym, refl, ap, ◌∙◌, subst, ⊎_elim, arith}
+use Rattle.std.proofs.Common.{◌≡◌, ℕ, suc, ◌<◌, List, [], ◌∷◌, ◌++◌, map, length, get_or, take, drop, set, sym, refl, ap, ◌∙◌, ⊎_elim, arith}
 use Rattle.std.specs.List.{remove}
-use Rattle.std.proofs.lemmas.List.{length-map, length-set, length-append, get_or-map, get_or-set_same, get_or-set_other, get_or_append_left, get_or_push, map-append, take-map, drop-map, set-get_or, same_lists, length_push}
+use Rattle.std.proofs.lemmas.List.{length-map, length-set, get_or-map, get_or-set_same, get_or-set_other, get_or_append_left, get_or_push, map-append, take-map, drop-map, set-get_or, same_lists, length_push}
 use Rattle.std.proofs.lemmas.Bool.{cases_eq}
 use Rattle.client_channel.specs.Kept.{Bytes, Kept, pair, kept}
 use Rattle.client_channel.specs.declared.state.Channel.{Channel}

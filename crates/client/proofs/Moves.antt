@@ -1,15 +1,15 @@
 -- A value stands for a client of the model before and after an event: one channel changed, removed or added, the login told, the connection down.
-use Rattle.std.proofs.Common.{◌≡◌, ℕ, zero, suc, ◌+◌, ◌-◌, ◌<◌, ◌≤◌, min, Bool, true, false, cond, not, ◌&&◌, ◌||◌, eqb, ltb, leb, ◌⊎◌, List, [], ◌∷◌, ◌++◌, map, length, get_or, take, drop, set, Some, None, Option, sym, refl, ap, ◌∙◌, subst, inl, inr, ⊎_elim, arith, rules}
+use Rattle.std.proofs.Common.{◌≡◌, ℕ, zero, suc, ◌+◌, ◌-◌, ◌<◌, ◌≤◌, Bool, true, false, ◌&&◌, ◌||◌, eqb, ltb, leb, List, [], ◌∷◌, ◌++◌, map, length, get_or, take, drop, set, sym, refl, ap, ◌∙◌, subst, ⊎_elim, arith}
 use Rattle.std.specs.List.{remove}
-use Rattle.std.proofs.lemmas.List.{length-set, length-append, length-take, length-drop, length_push, get_or-set_same, get_or-set_other, get_or_append_left, get_or-append_right, get_or-take, get_or-drop, get_or_push, append-nil, places}
+use Rattle.std.proofs.lemmas.List.{length-set, length-append, length-take, length-drop, length_push, get_or-set_same, get_or-set_other, get_or_append_left, get_or-append_right, get_or-take, get_or-drop, get_or_push, append-nil}
 use Rattle.std.proofs.lemmas.Bool.Decides.{nat_tests}
-use Rattle.std.proofs.lemmas.Bool.{cases_Bool, cond-true, cond-false, eqb-true, eqb-false, eq-eqb, ne_eqb, cases_eq, cases_lt, ltb-true, ltb-false, or_parts, leb-true, and_parts, le-leb, or_right}
-use Rattle.model.specs.Keyed.{find, change, numbers, count, is_in, above, gather, each}
-use Rattle.model.specs.Messages.{Rules, real, Request, ToServer, For, Run, Did, did}
+use Rattle.std.proofs.lemmas.Bool.{cases_Bool, cond-true, cond-false, eq-eqb, ne_eqb, cases_eq, cases_lt, ltb-false, or_parts, le-leb, or_right}
+use Rattle.model.specs.Keyed.{change, numbers, is_in, above, gather, each}
+use Rattle.model.specs.Messages.{Rules, real, ToServer, Did, did}
 use Rattle.model.specs.Client.{ClientChannel, Client, client, number_of, new_channel, is_held, requests, requests_of, flushed, flush, with_channels, labelled}
 use Rattle.client_channel.specs.Kept.{Kept, fresh}
 use Rattle.client.specs.View.{View}
-use Rattle.client.specs.Stand.{whole, limits, bare, Stand, none, past, held, QuietBut, StandsFor, owed_by, is_some, busy}
+use Rattle.client.specs.Stand.{whole, limits, bare, Stand, QuietBut, StandsFor, owed_by, is_some, busy}
 use Rattle.client.proofs.Bare.{or-false}
 use Rattle.client.proofs.Standing.{AllQuiet, gather-stand, each-quiet, Focus, focus, push-stand, is_in-push, above-push}
 

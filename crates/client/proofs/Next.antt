@@ -1,15 +1,15 @@
 -- The next request of a channel is the first that it sends by itself, and flushing it afterwards comes to the same.
-use Rattle.std.proofs.Common.{◌≡◌, ℕ, zero, suc, ◌+◌, ◌-◌, ◌<◌, ◌≤◌, min, Bool, true, false, cond, not, ◌&&◌, ◌||◌, eqb, ltb, List, [], ◌∷◌, ◌++◌, length, get_or, take, drop, Some, None, Option, sym, refl, ap, ◌∙◌, subst, ⊎_elim, arith}
+use Rattle.std.proofs.Common.{◌≡◌, ℕ, ◌+◌, ◌-◌, min, Bool, true, false, cond, not, ◌&&◌, ◌||◌, eqb, List, [], ◌∷◌, ◌++◌, length, take, drop, Some, None, Option, sym, refl, ap, ◌∙◌, subst, ⊎_elim, arith}
 use Rattle.std.proofs.lemmas.List.{length-take, length-drop, length-append, append_assoc, take-append-drop}
 use Rattle.std.proofs.lemmas.Bool.Decides.{nat_tests}
 use Rattle.std.proofs.lemmas.Bool.{cases_Bool, cond-true, cond-false, eqb-true, eqb-false}
-use Rattle.model.specs.Messages.{Request, Run, Input, OutputCredit, Eof, Close, parts, is_some}
-use Rattle.model.specs.Client.{Phase, Asked, Running, Refused, Closed, holds, ClientChannel, is_held, inputs, requests, flushed}
+use Rattle.model.specs.Messages.{Request, Run, Input, OutputCredit, Eof, Close, parts}
+use Rattle.model.specs.Client.{Closed, holds, is_held, inputs, flushed}
 use Rattle.client_channel.specs.Kept.{Kept}
 use Rattle.client_channel.specs.Steps.{Step, step_to, goes_of, part_of, sent_of, said_of, end_of, next_of}
-use Rattle.client.specs.Stand.{phase_of, whole, limits, bare}
+use Rattle.client.specs.Stand.{phase_of, whole}
 use Rattle.client.proofs.Parts.{first_part, no-parts, part-front, part-back}
-use Rattle.client.proofs.Bare.{eof_k, close_k, requests_k, sending, or-false, shape, flushed-whole}
+use Rattle.client.proofs.Bare.{eof_k, close_k, requests_k, sending, flushed-whole}
 
 pub record Sent (k k' : Kept) (q : Request) : Type 0 where
   pub number : k'.number ≡ k.number

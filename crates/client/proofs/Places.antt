@@ -1,6 +1,6 @@
 -- Where a channel stands in the table, and the view when it is changed there.
-use Rattle.std.proofs.Common.{◌≡◌, ℕ, ◌<◌, ◌≤◌, List, [], ◌∷◌, ◌++◌, length, get_or, set, sym, refl, ap, ◌∙◌, subst, arith}
-use Rattle.client_channel.specs.Kept.{Bytes, Kept, pair, kept, fresh}
+use Rattle.std.proofs.Common.{◌≡◌, ℕ, ◌<◌, ◌≤◌, List, length, get_or, set, sym, ap, ◌∙◌, arith}
+use Rattle.client_channel.specs.Kept.{Bytes, Kept, kept, fresh}
 use Rattle.client_channel.specs.declared.state.Channel.{Channel}
 use Rattle.held.specs.declared.table.Entry.{Entry}
 use Rattle.held.specs.declared.table.Table.{Table}

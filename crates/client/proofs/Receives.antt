@@ -1,12 +1,12 @@
 -- Each message that is taken, as its contract has it.
-use Rattle.std.proofs.Common.{◌≡◌, ℕ, ◌<◌, ◌≤◌, Bool, true, false, cond, ◌||◌, ◌⊎◌, List, [], ◌∷◌, length, get_or, set, Some, None, Ok, Err, Option, Result, sym, refl, ap, ◌∙◌, subst, inl, inr, ⊎_elim, arith}
+use Rattle.std.proofs.Common.{◌≡◌, ℕ, ◌<◌, Bool, true, false, ◌||◌, List, [], length, get_or, set, Some, None, Ok, Err, Option, Result, sym, refl, ap, ◌∙◌, subst, inl, inr, arith}
 use Rattle.std.specs.List.{remove}
-use Rattle.model.specs.Keyed.{find, change, is_in, numbers}
+use Rattle.model.specs.Keyed.{is_in, numbers}
 use Rattle.model.specs.Messages as model
 use Rattle.model.specs.Messages.{Rules, real, ToServer, Did, did, Reply}
 use Rattle.model.specs.Client as side
 use Rattle.model.specs.Client.{ClientChannel, client, number_of, is_held, channel_at, answered, hear, heard, receive, take_in, flush, with_channels}
-use Rattle.message.specs.Views.{to_client, reply, fault}
+use Rattle.message.specs.Views.{to_client, reply}
 use Rattle.message.specs.declared.to_client.ToClient.{ToClient}
 use Rattle.message.specs.declared.to_client.ToClient.TheVariants.{Accepted, Tock, Of}
 use Rattle.message.specs.declared.to_client.Reply.{Reply as CodeReply}
@@ -14,9 +14,9 @@ use Rattle.client_channel.specs.Kept.{Kept, fresh}
 use Rattle.client_channel.specs.Steps.{hear_of}
 use Rattle.client.specs.declared.value.Client.{Client}
 use Rattle.client.specs.View.{View, view_of}
-use Rattle.client.specs.Stand.{whole, StandsFor, owed_by, busy}
-use Rattle.client.specs.Contract.{Accepts, May, Stands, owed, is_busy, fault_in, fault_of, Takes}
-use Rattle.client.proofs.Standing.{Focus, focus, Absent}
+use Rattle.client.specs.Stand.{whole, StandsFor, owed_by}
+use Rattle.client.specs.Contract.{Accepts, May, Stands, is_busy, fault_in, fault_of, Takes}
+use Rattle.client.proofs.Standing.{focus, Absent}
 use Rattle.client.proofs.Moves.{view, idle, settled, changed, changed-sends, dropped, dropped-sends, told, nothing, downed, owed-idle}
 use Rattle.client.proofs.Refusals.{found_at, absent-at}
 use Rattle.client.proofs.Hears.{lifted, SameNumber, hear-is, hear-number}

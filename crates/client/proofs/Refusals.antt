@@ -1,10 +1,10 @@
 -- Which commands the model refuses, by what the value holds.
-use Rattle.std.proofs.Common.{◌≡◌, ℕ, suc, ◌+◌, ◌-◌, ◌<◌, ◌≤◌, min, Bool, true, false, cond, not, ◌&&◌, ◌||◌, eqb, ltb, leb, ◌⊎◌, List, [], ◌∷◌, ◌++◌, length, get_or, Some, None, Option, sym, refl, ap, ◌∙◌, subst, inl, inr, ⊎_elim, arith}
+use Rattle.std.proofs.Common.{◌≡◌, ℕ, ◌+◌, ◌<◌, Bool, true, false, not, ◌||◌, ltb, leb, List, ◌++◌, length, get_or, Some, None, sym, ap, ◌∙◌, subst, inl, inr, arith}
 use Rattle.std.proofs.lemmas.List.{length-append}
 use Rattle.std.proofs.lemmas.Bool.Decides.{nat_tests}
 use Rattle.model.specs.Keyed.{find, above, numbers, count}
-use Rattle.model.specs.Messages.{Rules, real}
-use Rattle.model.specs.Client.{ClientChannel, Client, client, number_of, is_held, channel_at, LogIn, Start, Enter, Finish, Take, BadNumber, TooManyHeld, NotHeld, AfterEof, TooMuch, Down, Refusal, unless, refusal, found_held, found_eof, found_full, bad_number, held_count}
+use Rattle.model.specs.Messages.{real}
+use Rattle.model.specs.Client.{Client, number_of, is_held, channel_at, LogIn, Start, Enter, Finish, Take, BadNumber, TooManyHeld, NotHeld, AfterEof, TooMuch, Down, unless, refusal, found_held, found_eof, found_full, bad_number, held_count}
 use Rattle.client_channel.specs.Kept.{Kept}
 use Rattle.client.specs.View.{View}
 use Rattle.client.specs.Stand.{whole, StandsFor, busy}

@@ -1,18 +1,18 @@
 -- The next message: what is pending, then what the one channel sends that may have something to send.
-use Rattle.std.proofs.Common.{◌≡◌, ℕ, zero, suc, ◌+◌, ◌-◌, ◌<◌, ◌≤◌, min, Bool, true, false, cond, not, ◌&&◌, ◌||◌, ◌⊎◌, List, [], ◌∷◌, ◌++◌, map, length, get_or, take, drop, set, Some, None, Option, sym, refl, ap, ◌∙◌, subst, inl, inr, ⊎_elim, arith}
+use Rattle.std.proofs.Common.{◌≡◌, ℕ, ◌<◌, ◌≤◌, Bool, true, false, cond, List, [], ◌∷◌, ◌++◌, map, length, get_or, set, sym, refl, ap, ◌∙◌, ⊎_elim, arith}
 use Rattle.std.specs.List.{remove}
 use Rattle.std.proofs.lemmas.List.{length-set, get_or-set_same, get_or-set_other, get_or_default}
-use Rattle.std.proofs.lemmas.Bool.{cases_Bool, cases_eq, cond-true, cond-false}
-use Rattle.model.specs.Keyed.{change, numbers, is_in, above, gather, each}
+use Rattle.std.proofs.lemmas.Bool.{cases_Bool, cases_eq, cond-true}
+use Rattle.model.specs.Keyed.{change, is_in, above, gather, each}
 use Rattle.model.specs.Messages.{Request, Close, ToServer, For}
-use Rattle.model.specs.Client.{ClientChannel, Client, number_of, is_held, requests, requests_of, flushed, flushed_running, runs, labelled}
+use Rattle.model.specs.Client.{ClientChannel, Client, number_of, requests, requests_of, flushed, flushed_running, runs, labelled}
 use Rattle.client_channel.specs.Kept.{Kept}
 use Rattle.client.specs.View.{View}
 use Rattle.client.specs.Stand.{whole, limits, bare, QuietBut, StandsFor, owed_by}
 use Rattle.client.proofs.Bare.{requests_k}
 use Rattle.client.proofs.Next.{Sent, Closing}
-use Rattle.client.proofs.Standing.{AllQuiet, bare-requests, past-flushed, Focus, focus}
-use Rattle.client.proofs.Moves.{view, removed-at, gather-one, gather_none, sends_of, never, length_removed, quiet-set, quiet-removed}
+use Rattle.client.proofs.Standing.{bare-requests, past-flushed, Focus, focus}
+use Rattle.client.proofs.Moves.{view, removed-at, gather-one, gather_none, sends_of, never, quiet-set, quiet-removed}
 
 labelled-cons : (t : ℕ) (q : Request) (qs : List Request) → labelled t (q ∷ qs) ≡ For t q ∷ labelled t qs
 unfolding labelled

@@ -1,10 +1,8 @@
 -- Lists of channels that stand for one another: what is sent, flushed, counted, found and changed.
-use Rattle.std.proofs.Common.{◌≡◌, ℕ, zero, suc, ◌+◌, ◌-◌, ◌<◌, ◌≤◌, min, Bool, true, false, cond, not, ◌&&◌, ◌||◌, eqb, ltb, leb, ◌⊎◌, List, [], ◌∷◌, ◌++◌, map, length, get_or, take, drop, set, Some, None, Option, sym, refl, ap, ◌∙◌, subst, inl, inr, ⊎_elim, arith}
+use Rattle.std.proofs.Common.{◌≡◌, ℕ, zero, suc, ◌+◌, ◌<◌, Bool, true, false, cond, ◌&&◌, ◌||◌, eqb, ltb, ◌⊎◌, List, [], ◌∷◌, ◌++◌, map, length, get_or, set, Some, None, sym, refl, ap, ◌∙◌, subst, inl, inr, ⊎_elim, arith}
 use Rattle.std.specs.List.{remove}
-use Rattle.std.proofs.lemmas.Bool.Decides.{nat_tests}
-use Rattle.std.proofs.lemmas.Bool.{cases_Bool, cond-true, cond-false, eqb-true, eqb-false, eq-eqb, ne_eqb, and_parts, cases_eq, ltb-true}
+use Rattle.std.proofs.lemmas.Bool.{cond-true, cond-false, eq-eqb, ne_eqb, and_parts, cases_eq, ltb-true}
 use Rattle.model.specs.Keyed.{find, change, numbers, count, is_in, above, gather, each}
-use Rattle.model.specs.Messages.{Request, ToServer, For}
 use Rattle.model.specs.Client.{Phase, Asked, Running, Refused, Closed, holds, runs, ClientChannel, number_of, new_channel, is_held, requests, requests_of, flushed, flushed_running, labelled}
 use Rattle.client_channel.specs.Kept.{Kept, fresh}
 use Rattle.client.specs.Stand.{phase_of, whole, limits, bare, Stand, none, past, held}

@@ -1,20 +1,19 @@
 -- The value is a client.
-use Rattle.std.proofs.Common.{◌≡◌, ℕ, Bool, true, false, cond, List, [], ◌∷◌, ◌++◌, Some, None, Option, sym, refl, ap, ◌∙◌, subst}
+use Rattle.std.proofs.Common.{◌≡◌, ℕ, Bool, true, false, List, [], ◌∷◌, ◌++◌, Some, Option, sym, refl, ap, ◌∙◌, subst}
 use Rattle.std.proofs.lemmas.List.{append-nil}
 use Rattle.std.proofs.lemmas.Bool.{cond-true}
 use Rattle.model.specs.Messages as model
 use Rattle.model.specs.Messages.{Rules, real, Programs, Did, did}
 use Rattle.model.specs.Client as side
 use Rattle.model.specs.Client.{Command, obey, obey_unless, take_in, refusal}
-use Rattle.model.specs.Server.{Server, serve}
-use Rattle.model.specs.World.{World, world, Event, User, Turn, ArriveThere, ArriveHere, CutHere, CutThere, Connect, Time, step, by_client, by_server, arrive_there}
-use Rattle.message.specs.Views.{to_server, to_client}
+use Rattle.model.specs.Server.{Server}
+use Rattle.model.specs.World.{World, world, User, ArriveHere, step, by_client, arrive_there}
+use Rattle.message.specs.Views.{to_client}
 use Rattle.message.specs.declared.to_client.ToClient.{ToClient}
 use Rattle.client.specs.declared.value.Client.{Client}
-use Rattle.client.specs.declared.refusal.Refusal.{Refusal}
 use Rattle.client.specs.View.{refusal_of}
-use Rattle.client.specs.Contract.{Accepts, May, Stands, owed, Begins, Obeys, Refuses, Takes, HandsOne, HandsNone, Cuts}
-use Rattle.client.specs.IsClient.{ClientOf, IsClient}
+use Rattle.client.specs.Contract.{Accepts, May, Stands, owed, Takes}
+use Rattle.client.specs.IsClient.{IsClient}
 
 module _ {S E : Type 0} where
   unmoved : (r : Rules) (p : Programs S E) (k : Command) (w : World S E) (f : side.Refusal) → refusal r k w.client ≡ Some f → step r p (User k) w ≡ w

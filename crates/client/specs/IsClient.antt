@@ -1,11 +1,11 @@
 -- What it is to be a client: states that stand for the model's client in any world, and what each event does to them. Assumes nothing.
-use Rattle.std.specs.Prelude.{◌≡◌, ℕ, Bool, List, [], ◌∷◌, ◌++◌, Option}
+use Rattle.std.specs.Prelude.{◌≡◌, ℕ, List, [], ◌∷◌, ◌++◌, Option}
 use Rattle.model.specs.Messages as model
 use Rattle.model.specs.Messages.{real, Programs}
 use Rattle.model.specs.Client as side
 use Rattle.model.specs.Client.{Command, new_client}
 use Rattle.model.specs.Server.{Server}
-use Rattle.model.specs.World.{World, world, Event, User, Turn, ArriveThere, ArriveHere, CutHere, CutThere, Connect, Time, step}
+use Rattle.model.specs.World.{World, world, User, Turn, ArriveThere, ArriveHere, CutHere, CutThere, Time, step}
 use Rattle.message.specs.Views.{to_server, to_client}
 use Rattle.message.specs.declared.to_server.ToServer.{ToServer}
 use Rattle.message.specs.declared.to_client.ToClient.{ToClient}

@@ -1,5 +1,5 @@
 -- Which clients of the model a value may stand for, and which messages it still owes. Assumes nothing.
-use Rattle.std.specs.Prelude.{◌≡◌, ℕ, ◌+◌, ◌<◌, ◌≤◌, Bool, true, false, cond, not, ◌||◌, List, [], ◌∷◌, ◌++◌, map, length, ◌≢◌, nat_le, nat_lt, slice_index_or}
+use Rattle.std.specs.Prelude.{◌≡◌, ℕ, ◌+◌, ◌<◌, ◌≤◌, Bool, true, false, cond, ◌||◌, List, [], ◌∷◌, ◌++◌, map, length, ◌≢◌, nat_le, nat_lt, slice_index_or}
 use Rattle.model.specs.Keyed.{numbers, is_in, above, gather, each}
 use Rattle.model.specs.Messages.{ToServer, Rules, real}
 use Rattle.model.specs.Client.{Phase, Asked, Running, ClientChannel, Client, number_of, is_held, requests, requests_of, flushed}

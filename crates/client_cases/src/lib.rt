@@ -1,11 +1,13 @@
 // The client by example: sessions played message by message.
+#![tactic(auto)]
+
 use client::refusal::{Refused, Rejected};
 use message::chunk::Chunk;
 use message::to_client::{Reply, ToClient};
 use message::to_server::{Request, ToServer};
 
 #[cfg(test)]
-mod held;
+mod holding;
 #[cfg(test)]
 mod session;
 

@@ -1,5 +1,5 @@
 -- What a channel holds, without its past. Assumes nothing.
-use Rattle.std.specs.Prelude.{ℕ, Bool, true, false, List, [], Some, None, Option}
+use Rattle.std.specs.Prelude.{ℕ, Bool, true, false, List, [], None, Option}
 use Rattle.ring.specs.Held.{held}
 use Rattle.client_channel.specs.declared.buffers.Buffers.{Buffers}
 use Rattle.client_channel.specs.declared.state.Phase.{Phase}

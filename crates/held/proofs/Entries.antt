@@ -1,8 +1,8 @@
 -- The entries of a table: how many, and what stands where.
-use Rattle.std.proofs.Common.{◌≡◌, ℕ, zero, suc, ◌+◌, ◌-◌, ◌*◌, ◌<◌, ◌≤◌, min, cond, eqb, ltb, List, [], ◌∷◌, ◌++◌, map, length, get_or, take, drop, set, vec_items, sym, refl, ap, ◌∙◌, subst, ⊎_elim, arith, rules}
+use Rattle.std.proofs.Common.{◌≡◌, ℕ, suc, ◌+◌, ◌-◌, ◌<◌, ◌≤◌, cond, eqb, ltb, List, [], ◌∷◌, ◌++◌, map, length, get_or, take, drop, set, vec_items, sym, refl, ap, ◌∙◌, subst, ⊎_elim, arith}
 use Rattle.std.specs.List.{remove}
-use borrow.Rule.Slice.PartMut.{put_mid, mid_of, post_of}
-use Rattle.std.proofs.lemmas.List.{length-take, length-take-le, length-set, length-map, get_or-take, get_or-map, map-set, set-get_or, set-append_left, take_at, take-append-drop, append_assoc, append-nil, length-append, get_or_append_left, get_or-append_right, get_or_at, map-append, drop_more, take-take, drop-take, get_or-set_same, get_or-set_other, length-drop, places, same_lists, take_more_set, take-set-le, get_or_default}
+use borrow.Rule.Slice.PartMut.{put_mid, mid_of}
+use Rattle.std.proofs.lemmas.List.{length-take, length-take-le, length-set, length-map, get_or-take, get_or-map, map-set, set-get_or, set-append_left, take_at, take-append-drop, append_assoc, length-append, get_or_append_left, get_or-append_right, get_or_at, map-append, drop_more, take-take, drop-take, get_or-set_same, get_or-set_other, length-drop}
 use Rattle.std.proofs.lemmas.Bool.{cases_lt, cases_order, cases_eq}
 use Rattle.std.proofs.lemmas.Bool.Decides.{nat_tests}
 use Rattle.held.specs.declared.table.Entry.{Entry}
@@ -66,6 +66,8 @@ module _ {X : Type 0} (p a q : List X) (e : X) where
 
   at_new : (k : ℕ) (d : X) → get_or New k d ≡ get_or Old (rot (length p) (length p + length a + 1) k) d
   at_new k d =
+      let ln : length (p ++ (a ++ e ∷ [])) ≡ length p + length a + 1 = simp length-append (omega arith) in
+      let lo : length (p ++ e ∷ a) ≡ length p + length a + 1 = simp length-append (omega arith) in
       ⊎_elim
       (λ h. let r : rot (length p) (length p + length a + 1) k ≡ k = grind (arith, nat_tests) in
       get_or_append_left p ((a ++ e ∷ []) ++ q) d k h ∙ sym (get_or_append_left p (e ∷ (a ++ q)) d k h) ∙ ap (λ j. get_or Old j d) (sym r))
@@ -90,8 +92,6 @@ module _ {X : Type 0} (p a q : List X) (e : X) where
       let r : rot (length p) (length p + length a + 1) k ≡ k = grind (arith, nat_tests) in
       let n : New ≡ (p ++ (a ++ e ∷ [])) ++ q = simp append_assoc in
       let o : Old ≡ (p ++ e ∷ a) ++ q = simp append_assoc in
-      let ln : length (p ++ (a ++ e ∷ [])) ≡ length p + length a + 1 = simp length-append (omega arith) in
-      let lo : length (p ++ e ∷ a) ≡ length p + length a + 1 = simp length-append (omega arith) in
       let n1 = get_or-append_right (p ++ (a ++ e ∷ [])) q (length p + length a + 1) k d ln more in
       let o1 = get_or-append_right (p ++ e ∷ a) q (length p + length a + 1) k d lo more in
       ap (λ z. get_or z k d) n ∙ n1 ∙ sym o1 ∙ ap (λ z. get_or z k d) (sym o) ∙ ap (λ j. get_or Old j d) (sym r))

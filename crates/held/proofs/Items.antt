@@ -1,6 +1,6 @@
 -- One element of a list seen through a map.
-use Rattle.std.proofs.Common.{◌≡◌, ℕ, ◌<◌, List, [], ◌∷◌, map, length, get_or, set, sym, refl, ap, ◌∙◌}
-use Rattle.std.proofs.lemmas.List.{get_or-map, map-set, get_or_read}
+use Rattle.std.proofs.Common.{◌≡◌, ℕ, ◌<◌, List, map, length, get_or, set, sym, ap, ◌∙◌}
+use Rattle.std.proofs.lemmas.List.{get_or-map, map-set}
 
 -- an element that was read, seen
 pub seen : {X Y : Type 0} (f : X → Y) (xs : List X) (i : ℕ) (x : X) (e : Y) → i < length xs → x ≡ get_or xs i x → f x ≡ get_or (map f xs) i e

@@ -1,5 +1,5 @@
 -- What table, buffers and marks hold. Assumes nothing.
-use Rattle.std.specs.Prelude.{◌≡◌, ℕ, Bool, List, [], map, take, set, vec_items, slice_index_or, slice_set}
+use Rattle.std.specs.Prelude.{◌≡◌, Bool, List, [], map, take, vec_items, slice_index_or, slice_set}
 use Rattle.client_channel.specs.Kept.{Bytes, pair, bytes_of}
 use Rattle.client_channel.specs.declared.state.Channel.{Channel}
 use Rattle.held.specs.declared.table.Slot.{Slot}

@@ -1,10 +1,10 @@
 -- Two parts written or read, as a turned list has them.
-use Rattle.std.proofs.Common.{◌≡◌, ℕ, ◌+◌, ◌-◌, ◌<◌, ◌≤◌, min, ◌⊎◌, List, [], ◌∷◌, ◌++◌, length, get_or, take, drop, sym, refl, ap, ◌∙◌, subst, inl, inr, ⊎_elim, arith, rules}
+use Rattle.std.proofs.Common.{◌≡◌, ℕ, ◌+◌, ◌-◌, ◌<◌, ◌≤◌, min, ◌⊎◌, List, [], ◌++◌, length, get_or, take, drop, sym, ap, ◌∙◌, subst, ⊎_elim, arith, rules}
 use borrow.Rule.Slice.PartMut.{put_mid, post_of}
-use Rattle.std.proofs.lemmas.List.{length-append, length-take, length-take-le, length-drop, places, same_lists, drop_at, take_at, append_assoc, append-nil, drop-append-le, drop-drop, drop_all, take_all, take-append-drop}
+use Rattle.std.proofs.lemmas.List.{length-append, length-take-le, length-drop, places, same_lists, drop_at, take_at, append_assoc, append-nil, drop-append-le, drop-drop, drop_all, take_all, take-append-drop}
 use Rattle.std.proofs.lemmas.Bool.{cases_lt}
 use Rattle.ring.specs.Held.{turned}
-use Rattle.ring.proofs.Turned.{length-turned, at_low, at_high}
+use Rattle.ring.proofs.Turned.{length-turned}
 
 pub read-parts : (xs out : List ℕ) (h s : ℕ) → h ≤ length xs → length out ≤ length xs → s ≡ min (length out) (length xs - h) →
     put_mid s (length out - s) (take (h + s - h) (drop h xs) ++ post_of 0 (s - 0) out) (take (length out - s - 0) (drop 0 xs)) ≡ take (length out) (turned h xs)

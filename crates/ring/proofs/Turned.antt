@@ -1,7 +1,7 @@
 -- Lists that are turned: their length, and what stands where.
-use Rattle.std.proofs.Common.{◌≡◌, ℕ, ◌+◌, ◌-◌, ◌<◌, ◌≤◌, min, List, [], ◌∷◌, ◌++◌, length, get_or, take, drop, vec_items, vec_len, sym, refl, ap, ◌∙◌, arith}
+use Rattle.std.proofs.Common.{◌≡◌, ℕ, ◌+◌, ◌-◌, ◌<◌, ◌≤◌, List, length, get_or, vec_items, ◌∙◌, arith}
 use Rattle.std.proofs.lemmas.List.{length-append, length-take, length-drop, places}
-use Rattle.ring.specs.Held.{turned, held, capacity_of}
+use Rattle.ring.specs.Held.{turned, held}
 use Rattle.ring.specs.declared.Ring.{Ring}
 
 pub length-turned : (h : ℕ) (xs : List ℕ) → length (turned h xs) ≡ length xs

@@ -1,4 +1,6 @@
 // A byte ring of bounded capacity, over memory that is got once.
+#![tactic(auto)]
+
 ghost use Rattle.std.specs.Prelude.{◌≤◌, vec_len};
 
 pub mod bytes;

@@ -1,6 +1,5 @@
-use Rattle.std.proofs.Common.{sym, refl, arith, rules}
-use Rattle.ring.specs.Held.{held, capacity_of, turned}
-use Rattle.ring.proofs.Turned.{length-held}
+use Rattle.std.proofs.Common.{refl}
+use Rattle.ring.specs.Held.{held, capacity_of}
 use Rattle.ring.proofs.Ring.clear.Goals as goal
 
 pub returns : goal.returns

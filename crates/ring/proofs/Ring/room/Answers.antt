@@ -1,5 +1,5 @@
-use Rattle.std.proofs.Common.{sym, refl, arith, rules}
-use Rattle.ring.specs.Held.{held, capacity_of, turned}
+use Rattle.std.proofs.Common.{rules}
+use Rattle.ring.specs.Held.{capacity_of}
 use Rattle.ring.proofs.Turned.{length-held}
 use Rattle.ring.proofs.Ring.room.Goals as goal
 

@@ -1,8 +1,7 @@
-use Rattle.std.proofs.Common.{sym, refl, arith, rules}
-use Rattle.ring.specs.Held.{held, capacity_of, turned}
-use Rattle.ring.proofs.Turned.{length-held}
+use Rattle.std.proofs.Common.{refl}
+use Rattle.ring.specs.Held.{held, capacity_of}
 use Rattle.ring.proofs.Ring.with_capacity.Goals as goal
 
 pub returns : goal.returns
 unfolding capacity_of held
-returns c = (refl, c.in-ok-memory.ensures.len)
+returns c = (refl, c.in_ok-memory.ensures.len)

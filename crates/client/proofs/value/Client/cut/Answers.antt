@@ -1,24 +1,9 @@
-use Rattle.std.proofs.Common.{◌≡◌, ℕ, ◌+◌, ◌<◌, ◌≤◌, min, true, false, not, ◌||◌, ltb, leb, [], ◌∷◌, ◌++◌, length, get_or, take, drop, set, sym, refl, ap, ◌∙◌, subst, ⊎_elim, arith, rules}
-use Rattle.std.specs.List.{remove}
-use Rattle.std.proofs.lemmas.Bool.{or_left, or_right, lt-leb, lt-ltb, not_from_false}
-use Rattle.model.specs.Messages as model
-use Rattle.model.specs.Client.{LogIn, Start, Enter, Finish, Take, output_credit}
-use Rattle.client_channel.specs.Kept.{Kept, pair, kept, fresh}
-use Rattle.client_channel.specs.Steps.{hear_of}
-use Rattle.held.specs.declared.table.Entry.{Entry}
-use Rattle.held.specs.Views.{entry, entries_of, pool_of, bytes_at, marks_of}
-use Rattle.held.proofs.Entries.{length-pool}
-use Rattle.client.specs.declared.value.Client.{Client}
-use Rattle.client.specs.declared.refusal.Refusal.TheVariants.{BadNumber, TooManyHeld, NotHeld, AfterEof, TooMuch, Down}
-use Rattle.client.specs.View.{View, view_of, kepts_at, pending_of}
-use Rattle.client.specs.Stand.{busy}
-use Rattle.client.specs.Contract.{Obeys, Refuses, Gets, Takes, Cuts, HandsNone, HandsOne}
-use Rattle.client.proofs.Moves.{view, idle, downed}
-use Rattle.client.proofs.Kepts.{length-kepts, kepts-push, kepts-remove}
-use Rattle.client.proofs.Places.{place, length_most, not_there, kept-is, number_is, put-bytes, put-channel, put_both, number_at}
-use Rattle.client.proofs.Calls.{entered_k, finished_k, took_k, login-obeys, start-obeys, input-obeys, eof-obeys, take-obeys, take-obeys-down, take-gets, owed-down}
-use Rattle.client.proofs.Refuse.{login-down, start-bad, start-many, start-down, input-absent, eof-absent, taking-absent, input-down, input-after, input-much, eof-down, eof-after}
+use Rattle.std.proofs.Common.{false, sym, refl, ◌∙◌}
+use Rattle.held.specs.Views.{entries_of, pool_of, marks_of}
+use Rattle.client.specs.View.{view_of, kepts_at, pending_of}
+use Rattle.client.proofs.Moves.{view, downed}
+use Rattle.client.proofs.Calls.{owed-down}
 use Rattle.client.proofs.value.Client.cut.Goals as goal
 
 pub returns : goal.returns
-returns c = record { idle = (sym c.is-busy.ensures ∙ c.if-is-busy.false); stands = λ w s. downed (view_of c.args.self.now) w s (sym c.is-busy.ensures ∙ c.if-is-busy.false); owes = owed-down (view (kepts_at (entries_of c.args.self.now.table) (pool_of c.args.self.now.pool)) (marks_of c.args.self.now.used) c.args.self.now.next c.args.self.now.accepted false (pending_of c.args.self.now.pending) c.args.self.now.turn) refl }
+returns c = record { idle = (sym c.is_busy.ensures ∙ c.if-is_busy.false); stands = λ w s. downed (view_of c.args.self.now) w s (sym c.is_busy.ensures ∙ c.if-is_busy.false); owes = owed-down (view (kepts_at (entries_of c.args.self.now.table) (pool_of c.args.self.now.pool)) (marks_of c.args.self.now.used) c.args.self.now.next c.args.self.now.accepted false (pending_of c.args.self.now.pending) c.args.self.now.turn) refl }

@@ -1,41 +1,16 @@
-use Rattle.std.proofs.Common.{◌≡◌, ℕ, ◌+◌, ◌<◌, ◌≤◌, min, true, false, not, ◌||◌, ltb, leb, [], ◌∷◌, ◌++◌, length, get_or, take, drop, set, Some, None, sym, refl, ap, ◌∙◌, subst, ⊎_elim, arith, rules}
-use Rattle.std.specs.List.{remove}
-use Rattle.std.proofs.lemmas.Bool.{or_left, or_right, lt-leb, lt-ltb, not_from_false}
-use Rattle.model.specs.Messages as model
-use Rattle.model.specs.Client.{LogIn, Start, Enter, Finish, Take, output_credit}
-use Rattle.client_channel.specs.Kept.{Kept, pair, kept, fresh}
-use Rattle.client_channel.specs.Steps.{hear_of}
-use Rattle.held.specs.declared.table.Entry.{Entry}
-use Rattle.held.specs.Views.{entry, entries_of, pool_of, bytes_at, marks_of}
-use Rattle.held.proofs.Entries.{length-pool}
-use Rattle.client.specs.declared.value.Client.{Client}
-use Rattle.client.specs.declared.refusal.Refusal.TheVariants.{BadNumber, TooManyHeld, NotHeld, AfterEof, TooMuch, Down}
-use Rattle.client.specs.View.{View, view_of, kepts_at, pending_of}
-use Rattle.client.specs.Stand.{busy}
-use Rattle.client.specs.Contract.{Obeys, Refuses, Gets, Takes, Cuts, HandsNone, HandsOne}
-use Rattle.client.proofs.Moves.{view, idle, downed}
-use Rattle.client.proofs.Kepts.{length-kepts, kepts-push, kepts-remove}
-use Rattle.client.proofs.Places.{place, length_most, not_there, kept-is, number_is, put-bytes, put-channel, put_both, number_at}
-use Rattle.client.proofs.Calls.{entered_k, finished_k, took_k, login-obeys, start-obeys, input-obeys, eof-obeys, take-obeys, take-obeys-down, take-gets, owed-down}
-use Rattle.client.proofs.Refuse.{login-down, start-bad, start-many, start-down, input-absent, eof-absent, taking-absent, input-down, input-after, input-much, eof-down, eof-after}
-use Rattle.std.proofs.lemmas.List.{set-get_or}
-use Rattle.message.specs.Views.{reply as reply_of, fault}
-use Rattle.message.specs.declared.to_client.ToClient.TheVariants.{Of, Accepted, Tock}
+use Rattle.std.proofs.Common.{sym, refl, ◌∙◌, subst}
+use Rattle.client.proofs.Places.{not_there}
+use Rattle.message.specs.declared.to_client.ToClient.TheVariants.{Of}
 use Rattle.client.specs.Contract.{Received}
-use Rattle.client.proofs.Kepts.{kept-at}
 use Rattle.held.proofs.Entries.{an_entry}
-use Rattle.client_channel.specs.Steps.{next_of}
-use Rattle.message.specs.declared.to_server.ToServer.TheVariants as to_servers
-use Rattle.client.proofs.HandOut.{facts-of, rest_of, close_of, sent-of, bytes_same, hands-pending, hands-idle, hands-rest, hands-sent, hands-closed}
-use Rattle.client.proofs.Moves.{length_removed}
-use Rattle.client.proofs.Receives.{told-takes, tock-takes, late-takes, never-takes, stays-takes, over-takes, fault-takes}
+use Rattle.client.proofs.Receives.{late-takes, never-takes}
 use Rattle.client.proofs.value.Client.hear.Goals as goal
 
 pub returns-in-Some : goal.returns-in-Some
-returns-in-Some c = subst (λ t. Received (Of t c.args.reply) c.args.self.now c.hear-at.result c.hear-at.new.self) (c.in-Some.ensures.1 (an_entry c.args.self.now.table) ∙ c.from.ensures) (c.hear-at.ensures (an_entry c.args.self.now.table))
+returns-in-Some c = subst (λ t. Received (Of t c.args.reply) c.args.self.now c.hear_at.result c.hear_at.new.self) (c.in-Some.ensures.1 (an_entry c.args.self.now.table) ∙ c.from.ensures) (c.hear_at.ensures (an_entry c.args.self.now.table))
 
 pub returns-then-has : goal.returns-then-has
-returns-then-has c = late-takes c.args.self.now c.requires.0 c.requires.1 c.args.channel (not_there c.args.self.now.table c.args.self.now.pool c.args.channel (λ j d l q. c.in-default.ensures j d l (q ∙ sym c.from.ensures))) c.args.reply (sym c.has.ensures ∙ c.if-has.true)
+returns-then-has c = late-takes c.args.self.now c.requires.0 c.requires.1 c.args.channel (not_there c.args.self.now.table c.args.self.now.pool c.args.channel (λ j d l q. c.in_default.ensures j d l (q ∙ sym c.from.ensures))) c.args.reply (sym c.has.ensures ∙ c.if-has.true)
 
 pub returns : goal.returns
-returns c = never-takes c.args.self.now c.requires.0 c.requires.1 c.args.channel (not_there c.args.self.now.table c.args.self.now.pool c.args.channel (λ j d l q. c.in-default.ensures j d l (q ∙ sym c.from.ensures))) c.args.reply (sym c.has.ensures ∙ c.if-has.false) _ refl
+returns c = never-takes c.args.self.now c.requires.0 c.requires.1 c.args.channel (not_there c.args.self.now.table c.args.self.now.pool c.args.channel (λ j d l q. c.in_default.ensures j d l (q ∙ sym c.from.ensures))) c.args.reply (sym c.has.ensures ∙ c.if-has.false) _ refl

@@ -1,33 +1,18 @@
-use Rattle.std.proofs.Common.{◌≡◌, ℕ, ◌+◌, ◌<◌, ◌≤◌, min, true, false, not, ◌||◌, ltb, leb, [], ◌∷◌, ◌++◌, length, get_or, take, drop, set, Some, None, Ok, Err, sym, refl, ap, ◌∙◌, subst, ⊎_elim, arith, rules}
+use Rattle.std.proofs.Common.{◌≡◌, false, [], get_or, set, Some, None, Ok, Err, sym, ap, ◌∙◌, subst}
 use Rattle.std.specs.List.{remove}
-use Rattle.std.proofs.lemmas.Bool.{or_left, or_right, lt-leb, lt-ltb, not_from_false}
-use Rattle.model.specs.Messages as model
-use Rattle.model.specs.Client.{LogIn, Start, Enter, Finish, Take, output_credit}
 use Rattle.client_channel.specs.Kept.{Kept, pair, kept, fresh}
 use Rattle.client_channel.specs.Steps.{hear_of, seen_heard, UnlessStays}
-use Rattle.held.specs.declared.table.Entry.{Entry}
 use Rattle.held.specs.Views.{entry, entries_of, pool_of, bytes_at, marks_of}
-use Rattle.held.proofs.Entries.{length-pool}
-use Rattle.client.specs.declared.value.Client.{Client}
-use Rattle.client.specs.declared.refusal.Refusal.TheVariants.{BadNumber, TooManyHeld, NotHeld, AfterEof, TooMuch, Down}
-use Rattle.client.specs.View.{View, view_of, kepts_at, pending_of}
-use Rattle.client.specs.Stand.{busy}
-use Rattle.client.specs.Contract.{Obeys, Refuses, Gets, Takes, Cuts, HandsNone, HandsOne}
-use Rattle.client.proofs.Moves.{view, idle, downed}
-use Rattle.client.proofs.Kepts.{length-kepts, kepts-push, kepts-remove}
-use Rattle.client.proofs.Places.{place, length_most, not_there, kept-is, number_is, put-bytes, put-channel, put_both, number_at}
-use Rattle.client.proofs.Calls.{entered_k, finished_k, took_k, login-obeys, start-obeys, input-obeys, eof-obeys, take-obeys, take-obeys-down, take-gets, owed-down}
-use Rattle.client.proofs.Refuse.{login-down, start-bad, start-many, start-down, input-absent, eof-absent, taking-absent, input-down, input-after, input-much, eof-down, eof-after}
+use Rattle.client.specs.View.{view_of, kepts_at, pending_of}
+use Rattle.client.specs.Contract.{Takes}
+use Rattle.client.proofs.Moves.{view, idle}
+use Rattle.client.proofs.Kepts.{kepts-remove}
+use Rattle.client.proofs.Places.{place, kept-is, put_both}
 use Rattle.std.proofs.lemmas.List.{set-get_or}
 use Rattle.message.specs.Views.{reply as reply_of, fault}
-use Rattle.message.specs.declared.to_client.ToClient.TheVariants.{Of, Accepted, Tock}
-use Rattle.client.specs.Contract.{Received}
+use Rattle.message.specs.declared.to_client.ToClient.TheVariants.{Of}
 use Rattle.client.proofs.Kepts.{kept-at}
-use Rattle.client_channel.specs.Steps.{next_of}
-use Rattle.message.specs.declared.to_server.ToServer.TheVariants as to_servers
-use Rattle.client.proofs.HandOut.{facts-of, rest_of, close_of, sent-of, bytes_same, hands-pending, hands-idle, hands-rest, hands-sent, hands-closed}
-use Rattle.client.proofs.Moves.{length_removed}
-use Rattle.client.proofs.Receives.{told-takes, tock-takes, late-takes, never-takes, stays-takes, over-takes, fault-takes}
+use Rattle.client.proofs.Receives.{stays-takes, over-takes, fault-takes}
 use Rattle.client.proofs.value.Client.hear_at.Goals as goal
 
 pub returns : goal.returns
@@ -46,8 +31,8 @@ returns c d =
     let ek : kepts_at (entries_of c.put.new.self) (pool_of c.hear.new.self) ≡ set ks c.args.i (kept x b) = ap (λ z. kepts_at z (pool_of c.hear.new.self)) (c.put.ensures e) ∙ ap (kepts_at (set (entries_of c.args.self.now.table) c.args.i (entry (get_or (entries_of c.args.self.now.table) c.args.i e).slot x))) en.set ∙ put_both c.args.self.now.table c.args.self.now.pool c.args.i c.requires.0 e h x b in
     subst (λ t. Takes (Of t c.args.reply) c.args.self.now None (record { table = c.put.new.self; pool = c.hear.new.self; used = c.args.self.now.used; next = c.args.self.now.next; accepted = c.args.self.now.accepted; up = c.args.self.now.up; pending = c.args.self.now.pending; turn = c.args.i })) nk (stays-takes c.args.self.now c.requires.1.0 c.requires.1.1 c.args.i l c.args.reply (kept x b) _ hk (λ j. view (ek j) (marks_of c.args.self.now.used) c.args.self.now.next c.args.self.now.accepted c.args.self.now.up ((idle (view_of c.args.self.now) c.requires.1.0).pending j) c.args.i))
 
-pub returns-in-default : goal.returns-in-default
-returns-in-default c d =
+pub returns-in_default : goal.returns-in_default
+returns-in_default c d =
     let e = c.get-entry.result in
     let h = c.get-entry.ensures e in
     let l = place c.args.self.now.table c.args.self.now.pool c.args.i c.requires.0 in
@@ -57,8 +42,8 @@ returns-in-default c d =
     let nk : k.number ≡ (get_or (entries_of c.args.self.now.table) c.args.i d).channel.number = ap (λ (z : Kept). z.number) (kept-at (entries_of c.args.self.now.table) (pool_of c.args.self.now.pool) c.args.i (fresh 0) d c.requires.0) in
     let en = c.in-Ok.ensures in
     let b = en.there in
-    let hk : hear_of (reply_of c.args.reply) k ≡ Ok None = ap (hear_of (reply_of c.args.reply)) ki ∙ sym en.holds.0 ∙ ap (λ z. seen_heard (Ok z) b) c.in-default.is in
-    let same : pool_of c.hear.new.self ≡ pool_of c.args.self.now.pool = en.set ∙ ap (set (pool_of c.args.self.now.pool) e.slot.index) (subst (λ z. UnlessStays (Ok z) (b ≡ bytes_at (pool_of c.args.self.now.pool) e.slot)) c.in-default.is en.holds.1) ∙ set-get_or (pool_of c.args.self.now.pool) e.slot.index (pair [] []) in
+    let hk : hear_of (reply_of c.args.reply) k ≡ Ok None = ap (hear_of (reply_of c.args.reply)) ki ∙ sym en.holds.0 ∙ ap (λ z. seen_heard (Ok z) b) c.in_default.is in
+    let same : pool_of c.hear.new.self ≡ pool_of c.args.self.now.pool = en.set ∙ ap (set (pool_of c.args.self.now.pool) e.slot.index) (subst (λ z. UnlessStays (Ok z) (b ≡ bytes_at (pool_of c.args.self.now.pool) e.slot)) c.in_default.is en.holds.1) ∙ set-get_or (pool_of c.args.self.now.pool) e.slot.index (pair [] []) in
     let ek : kepts_at (entries_of c.remove.new.self) (pool_of c.hear.new.self) ≡ remove ks c.args.i = ap (λ z. kepts_at z (pool_of c.hear.new.self)) c.remove.ensures ∙ ap (kepts_at (remove (entries_of c.args.self.now.table) c.args.i)) same ∙ kepts-remove (entries_of c.args.self.now.table) (pool_of c.args.self.now.pool) c.args.i in
     subst (λ t. Takes (Of t c.args.reply) c.args.self.now None (record { table = c.remove.new.self; pool = c.hear.new.self; used = c.args.self.now.used; next = c.args.self.now.next; accepted = c.args.self.now.accepted; up = c.args.self.now.up; pending = c.args.self.now.pending; turn = c.args.self.now.turn })) nk (over-takes c.args.self.now c.requires.1.0 c.requires.1.1 c.args.i l c.args.reply _ hk (λ j. view (ek j) (marks_of c.args.self.now.used) c.args.self.now.next c.args.self.now.accepted c.args.self.now.up (pending_of c.args.self.now.pending) c.args.self.now.turn))
 

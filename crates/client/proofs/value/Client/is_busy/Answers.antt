@@ -1,4 +1,4 @@
-use Rattle.std.proofs.Common.{◌≡◌, ◌||◌, ltb, length, sym, refl, ap, ◌∙◌, rules}
+use Rattle.std.proofs.Common.{◌||◌, ltb, length, sym, ap, ◌∙◌}
 use Rattle.client.specs.View.{pending_of, kepts_at}
 use Rattle.client.specs.Stand.{is_some}
 use Rattle.held.specs.Views.{entries_of, pool_of}

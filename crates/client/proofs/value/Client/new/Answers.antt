@@ -1,4 +1,4 @@
-use Rattle.std.proofs.Common.{◌≡◌, [], sym, refl, ap, ◌∙◌, rules}
+use Rattle.std.proofs.Common.{◌≡◌, [], ap}
 use Rattle.held.specs.Views.{entries_of, pool_of, marks_of}
 use Rattle.held.proofs.Entries.{length-marks}
 use Rattle.client.specs.View.{kepts_at}
@@ -8,8 +8,8 @@ use Rattle.client.proofs.value.Client.new.Goals as goal
 pub returns : goal.returns
 unfolding kepts_at
 returns c =
-    let bs = pool_of c.in-ok-pool.pool in
+    let bs = pool_of c.in_ok-pool.pool in
     let ks = kepts_at (entries_of c.new-3.result) bs in
-    let ms = marks_of c.in-ok-used.used in
+    let ms = marks_of c.in_ok-used.used in
     let e : ks ≡ [] = ap (λ es. kepts_at es bs) c.new-3.ensures in
-    record { stands = begins ks ms e c.in-ok-used.ensures (length-marks c.in-ok-used.used); owes = begins-owes ks ms e; idle = begins-idle ks ms e }
+    record { stands = begins ks ms e c.in_ok-used.ensures (length-marks c.in_ok-used.used); owes = begins-owes ks ms e; idle = begins-idle ks ms e }

@@ -1,36 +1,22 @@
-use Rattle.std.proofs.Common.{◌≡◌, ℕ, ◌+◌, ◌<◌, ◌≤◌, min, true, false, not, ◌||◌, ltb, leb, [], ◌∷◌, ◌++◌, length, get_or, take, drop, set, Some, sym, refl, ap, ◌∙◌, subst, ⊎_elim, arith, rules}
+use Rattle.std.proofs.Common.{◌≡◌, ◌<◌, [], length, get_or, set, Some, sym, ap, ◌∙◌, arith}
 use Rattle.std.specs.List.{remove}
-use Rattle.std.proofs.lemmas.Bool.{or_left, or_right, lt-leb, lt-ltb, not_from_false}
-use Rattle.model.specs.Messages as model
-use Rattle.model.specs.Client.{LogIn, Start, Enter, Finish, Take, output_credit}
 use Rattle.client_channel.specs.Kept.{Kept, pair, kept, fresh}
-use Rattle.client_channel.specs.Steps.{hear_of}
-use Rattle.held.specs.declared.table.Entry.{Entry}
-use Rattle.held.specs.Views.{entry, entries_of, pool_of, bytes_at, marks_of}
-use Rattle.held.proofs.Entries.{length-pool}
-use Rattle.client.specs.declared.value.Client.{Client}
-use Rattle.client.specs.declared.refusal.Refusal.TheVariants.{BadNumber, TooManyHeld, NotHeld, AfterEof, TooMuch, Down}
-use Rattle.client.specs.View.{View, view_of, kepts_at, pending_of}
-use Rattle.client.specs.Stand.{busy}
-use Rattle.client.specs.Contract.{Obeys, Refuses, Gets, Takes, Cuts, HandsNone, HandsOne}
-use Rattle.client.proofs.Moves.{view, idle, downed}
-use Rattle.client.proofs.Kepts.{length-kepts, kepts-push, kepts-remove}
-use Rattle.client.proofs.Places.{place, length_most, not_there, kept-is, number_is, put-bytes, put-channel, put_both, number_at}
-use Rattle.client.proofs.Calls.{entered_k, finished_k, took_k, login-obeys, start-obeys, input-obeys, eof-obeys, take-obeys, take-obeys-down, take-gets, owed-down}
-use Rattle.client.proofs.Refuse.{login-down, start-bad, start-many, start-down, input-absent, eof-absent, taking-absent, input-down, input-after, input-much, eof-down, eof-after}
+use Rattle.held.specs.Views.{entries_of, pool_of, bytes_at, marks_of}
+use Rattle.client.specs.View.{kepts_at, pending_of}
+use Rattle.client.proofs.Moves.{view}
+use Rattle.client.proofs.Kepts.{length-kepts, kepts-remove}
+use Rattle.client.proofs.Places.{place, length_most, kept-is, put_both}
 use Rattle.std.proofs.lemmas.List.{set-get_or}
 use Rattle.client_channel.specs.Steps.{next_of}
-use Rattle.message.specs.declared.to_server.ToServer.TheVariants as to_servers
-use Rattle.client.proofs.HandOut.{facts-of, rest_of, close_of, sent-of, bytes_same, hands-pending, hands-idle, hands-rest, hands-sent, hands-closed}
+use Rattle.client.proofs.HandOut.{facts-of, rest_of, close_of, sent-of, bytes_same, hands-idle, hands-rest, hands-sent, hands-closed}
 use Rattle.client.proofs.Moves.{length_removed}
-use Rattle.client.proofs.Receives.{told-takes, tock-takes, late-takes, never-takes, stays-takes, over-takes, fault-takes}
 use Rattle.client.proofs.value.Client.next_of_turn.Goals as goal
 
 pub returns-then-i-len : goal.returns-then-i-len
 returns-then-i-len c = hands-idle c.args.self.now c.requires (let q = length-kepts (entries_of c.args.self.now.table) (pool_of c.args.self.now.pool) in omega (arith, c.len.ensures, c.if-i-len.true))
 
-pub returns-in-default : goal.returns-in-default
-returns-in-default c =
+pub returns-in_default : goal.returns-in_default
+returns-in_default c =
     let e = c.get-entry.result in
     let h = c.get-entry.ensures e in
     let il : c.args.self.now.turn < length (entries_of c.args.self.now.table) = omega (arith, c.len.ensures, c.if-i-len.false) in
@@ -41,7 +27,7 @@ returns-in-default c =
     let b = c.next-request.ensures.there in
     let x = c.next-request.result.0 in
     let f = facts-of k (kept x b) c.next-request.result.1 (c.next-request.ensures.holds ∙ ap next_of (sym ki)) in
-    let r = rest_of k (kept x b) c.next-request.result.1 c.in-default.is f in
+    let r = rest_of k (kept x b) c.next-request.result.1 c.in_default.is f in
     let same : pool_of c.next-request.new.self ≡ pool_of c.args.self.now.pool = c.next-request.ensures.set ∙ ap (set (pool_of c.args.self.now.pool) e.slot.index) (bytes_same x e.channel b (bytes_at (pool_of c.args.self.now.pool) e.slot) (r.0 ∙ ki)) ∙ set-get_or (pool_of c.args.self.now.pool) e.slot.index (pair [] []) in
     hands-rest c.args.self.now c.requires l _ r.1 (length_most c.args.self.now.table c.args.self.now.pool) (λ j. view (kepts_at (entries_of c.args.self.now.table) (same j)) (marks_of c.args.self.now.used) c.args.self.now.next c.args.self.now.accepted c.args.self.now.up (pending_of c.args.self.now.pending) 16)
 
@@ -64,8 +50,8 @@ returns-in-Close c =
     let ek : kepts_at (entries_of c.remove.new.self) (pool_of c.next-request.new.self) ≡ remove ks c.args.self.now.turn = ap (λ z. kepts_at z (pool_of c.next-request.new.self)) c.remove.ensures ∙ ap (kepts_at (remove (entries_of c.args.self.now.table) c.args.self.now.turn)) same ∙ kepts-remove (entries_of c.args.self.now.table) (pool_of c.args.self.now.pool) c.args.self.now.turn in
     hands-closed c.args.self.now c.requires l (kept x b) c.in-Some.request e.channel.number _ r c.in-Close.is (ap (λ (z : Kept). z.number) ki) (omega arith) (λ j. view (ek j) (marks_of c.args.self.now.used) c.args.self.now.next c.args.self.now.accepted c.args.self.now.up (c.requires j) 16)
 
-pub returns-in-default-request : goal.returns-in-default-request
-returns-in-default-request c =
+pub returns-in_default-request : goal.returns-in_default-request
+returns-in_default-request c =
     let e = c.get-entry.result in
     let h = c.get-entry.ensures e in
     let il : c.args.self.now.turn < length (entries_of c.args.self.now.table) = omega (arith, c.len.ensures, c.if-i-len.false) in
@@ -76,6 +62,6 @@ returns-in-default-request c =
     let b = c.next-request.ensures.there in
     let x = c.next-request.result.0 in
     let f = facts-of k (kept x b) c.next-request.result.1 (c.next-request.ensures.holds ∙ ap next_of (sym ki)) in
-    let r = sent-of k (kept x b) c.next-request.result.1 c.in-Some.request c.in-Some.is c.in-default-request.not-Close f in
+    let r = sent-of k (kept x b) c.next-request.result.1 c.in-Some.request c.in-Some.is c.in_default-request.not-Close f in
     let ek : kepts_at (entries_of c.put.new.self) (pool_of c.next-request.new.self) ≡ set ks c.args.self.now.turn (kept x b) = ap (λ z. kepts_at z (pool_of c.next-request.new.self)) (c.put.ensures e) ∙ ap (kepts_at _) c.next-request.ensures.set ∙ put_both c.args.self.now.table c.args.self.now.pool c.args.self.now.turn il e h x b in
     hands-sent c.args.self.now c.requires l (kept x b) c.in-Some.request e.channel.number _ r (ap (λ (z : Kept). z.number) ki) (λ j. view (ek j) (marks_of c.args.self.now.used) c.args.self.now.next c.args.self.now.accepted c.args.self.now.up (c.requires j) c.args.self.now.turn)

@@ -1,11 +1,10 @@
-use Rattle.std.proofs.Common.{◌≡◌, ◌+◌, ◌-◌, ◌<◌, ◌≤◌, [], ◌∷◌, map, length, get_or, take, set, sym, refl, ap, ◌∙◌, subst, arith, rules}
+use Rattle.std.proofs.Common.{sym, ◌∙◌, arith}
 use Rattle.std.proofs.lemmas.List.{get_or_default}
-use Rattle.held.specs.Views.{entries_of}
-use Rattle.held.proofs.Entries.{length-entries, within, entry_at}
+use Rattle.held.proofs.Entries.{within, entry_at}
 use Rattle.held.proofs.table.Table.get.Goals as goal
 
-pub offset-bounds-self-i : goal.offset-bounds-self-i
-offset-bounds-self-i c = omega (arith, (within c.args.self.now c.args.i c.requires).1)
+pub offset_bounds-self-i : goal.offset_bounds-self-i
+offset_bounds-self-i c = omega (arith, (within c.args.self.now c.args.i c.requires).1)
 
 pub listed : goal.listed
 listed c = omega (arith, (within c.args.self.now c.args.i c.requires).1, c.args.self.now.ok.1)

@@ -1,6 +1,5 @@
-use Rattle.std.proofs.Common.{◌≡◌, sym, refl, ap, ◌∙◌, subst, arith, rules}
-use Rattle.held.specs.Views.{entries_of}
-use Rattle.held.proofs.Entries.{length-entries, within, entry_at}
+use Rattle.std.proofs.Common.{sym}
+use Rattle.held.proofs.Entries.{length-entries}
 use Rattle.held.proofs.table.Table.len.Goals as goal
 
 pub returns : goal.returns

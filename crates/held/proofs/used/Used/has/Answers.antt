@@ -1,4 +1,4 @@
-use Rattle.std.proofs.Common.{◌≡◌, false, vec_items, vec_len, sym, refl, ap, ◌∙◌, subst, arith, rules}
+use Rattle.std.proofs.Common.{false, vec_items, vec_len, arith}
 use Rattle.held.specs.Views.{marks_of}
 use Rattle.std.proofs.lemmas.List.{get_or_read_under}
 use Rattle.held.proofs.used.Used.has.Goals as goal

@@ -1,8 +1,6 @@
-use Rattle.std.proofs.Common.{◌≡◌, sym, refl, ap, ◌∙◌, subst, arith, rules}
 use Rattle.held.specs.Views.{marks_of}
-use Rattle.std.proofs.lemmas.List.{get_or_read_under}
 use Rattle.held.proofs.used.Used.new.Goals as goal
 
 pub returns : goal.returns
 unfolding marks_of
-returns c = c.in-ok-marks.ensures.items-if-clones-equal (λ y h. h)
+returns c = c.in_ok-marks.ensures.items_if_clones_equal (λ y h. h)
