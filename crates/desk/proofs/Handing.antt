@@ -1,13 +1,13 @@
 -- The first channel of which something goes hands it out.
-use Rattle.std.proofs.Common.{◌≡◌, ℕ, zero, suc, ◌+◌, ◌-◌, ◌<◌, ◌≤◌, Bool, true, false, cond, not, ◌&&◌, ◌||◌, List, [], ◌∷◌, ◌++◌, map, length, get_or, take, drop, set, Some, None, Option, sym, refl, ap, ◌∙◌, subst, arith}
+use Rattle.std.proofs.Common.{◌≡◌, ℕ, zero, suc, ◌<◌, true, cond, List, [], ◌∷◌, ◌++◌, map, length, get_or, set, sym, refl, ap, ◌∙◌, arith}
 use Rattle.std.proofs.lemmas.List.{map-set, set-get_or}
 use Rattle.std.proofs.lemmas.Bool.{cond-true, and_parts}
 use Rattle.model.specs.Keyed.{gather, every}
 use Rattle.model.specs.Messages as model
 use Rattle.model.specs.Server.{returned}
-use Rattle.server_channel.specs.Kept.{Kept, kept, quiet, due, settled}
+use Rattle.server_channel.specs.Kept.{Kept, quiet, due, settled}
 use Rattle.server_channel.proofs.Quiet.{quiet-due}
-use Rattle.desk.specs.View.{View, view, Told, Nothing, tells, due_of, number_in, owed_by, flushed}
+use Rattle.desk.specs.View.{View, view, Nothing, tells, due_of, number_in, owed_by, flushed}
 
 module _ {S : Type 0} where
   settled-number : (k : Kept S) → number_in (settled k) ≡ number_in k

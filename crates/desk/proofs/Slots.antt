@@ -1,12 +1,11 @@
 -- The channels that are held, by the slots.
-use Rattle.std.proofs.Common.{◌≡◌, ℕ, zero, suc, ◌+◌, ◌-◌, ◌<◌, ◌≤◌, min, Bool, true, false, not, ◌&&◌, ◌||◌, List, [], ◌∷◌, ◌++◌, map, length, get_or, take, drop, set, vec_items, sym, refl, ap, ◌∙◌, subst, arith}
-use Rattle.std.specs.Holes as holes
-use Rattle.std.proofs.lemmas.List.{length-map, length-take, get_or-map, get_or-take, map-set, map-append, take_all, append-nil, take-map, drop-map}
+use Rattle.std.proofs.Common.{◌≡◌, ℕ, zero, suc, ◌-◌, ◌<◌, ◌≤◌, Bool, true, false, not, ◌&&◌, ◌||◌, List, [], ◌∷◌, ◌++◌, map, length, get_or, take, drop, set, vec_items, sym, refl, ap, ◌∙◌, arith}
+use Rattle.std.proofs.lemmas.List.{length-map, length-take, get_or-map, get_or-take, map-set, map-append, take-map, drop-map}
 use Rattle.server_channel.specs.declared.Channel.{Channel}
-use Rattle.server_channel.specs.Kept.{Kept, kept_of, quiet, due, settled}
+use Rattle.server_channel.specs.Kept.{Kept, kept_of, quiet}
 use Rattle.model.specs.Keyed.{every}
 use Rattle.std.proofs.lemmas.Bool.{and_left, and_right, and_from, or_right}
-use Rattle.desk.specs.View.{View, view, due_of, number_in, owed_by, flushed}
+use Rattle.desk.specs.View.{View}
 use Rattle.desk.specs.Quiet.{silent, is_silent}
 use Rattle.desk.specs.declared.Desk.{Desk}
 use Rattle.desk.specs.Sight.{kept_in, view_of}

@@ -1,5 +1,5 @@
 -- The view of a desk, and what its calls do to it. Assumes nothing.
-use Rattle.std.specs.Prelude.{◌≡◌, ℕ, ◌<◌, Bool, true, false, cond, ◌&&◌, List, [], ◌∷◌, ◌++◌, map, length, take, Some, None, Ok, Err, vec_items, Option, Result, ◌≢◌, slice_index_or, slice_set}
+use Rattle.std.specs.Prelude.{◌≡◌, ℕ, ◌<◌, true, false, List, [], ◌∷◌, map, length, take, Some, None, Ok, Err, vec_items, Option, Result, ◌≢◌, slice_index_or, slice_set}
 use Rattle.model.specs.Messages.{Request, Fault, Programs}
 use Rattle.message.specs.declared.fault.Fault as code
 use Rattle.message.specs.Views.{to_client, fault}

@@ -1,5 +1,5 @@
 -- What a server holds, without its past: its channels in rising order, and what is told next. Assumes nothing.
-use Rattle.std.specs.Prelude.{ℕ, suc, ◌+◌, Bool, true, false, cond, not, ◌&&◌, eqb, ltb, leb, List, [], ◌∷◌, ◌++◌, map, length, Some, None, Option}
+use Rattle.std.specs.Prelude.{ℕ, Bool, true, false, cond, not, List, [], ◌∷◌, ◌++◌, map, Option}
 use Rattle.model.specs.Keyed.{gather, every}
 use Rattle.model.specs.Messages.{ToClient, Accepted, Of, Runs, InputCredit}
 use Rattle.model.specs.Server.{returned}

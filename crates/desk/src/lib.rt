@@ -1,4 +1,6 @@
 // The server's channels in rising order, who is accepted, which numbers were used, and what is told next.
+#![tactic(auto)]
+
 ghost use Rattle.std.specs.Prelude.{◌≡◌, ◌<◌, ◌≤◌, if◌then◌else◌, vec_len};
 
 use numbers::Numbers;

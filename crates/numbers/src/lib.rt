@@ -1,4 +1,6 @@
 // Which of the numbers 0 to 65,535 were used, a bit for each, in memory that is got once.
+#![tactic(auto)]
+
 ghost use Rattle.std.specs.Prelude.{◌≡◌, vec_len};
 
 pub mod bits;

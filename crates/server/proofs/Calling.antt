@@ -1,20 +1,20 @@
 -- What each call does, from what is done to the view.
-use Rattle.std.proofs.Common.{◌≡◌, ℕ, zero, suc, ◌+◌, ◌<◌, ◌≤◌, Bool, true, false, cond, not, ◌&&◌, ◌||◌, ltb, leb, List, [], ◌∷◌, ◌++◌, map, length, get_or, Some, None, Ok, Err, Option, Result, sym, refl, ap, ◌∙◌, subst, arith}
+use Rattle.std.proofs.Common.{◌≡◌, ℕ, suc, ◌<◌, Bool, true, false, cond, not, ◌&&◌, ◌||◌, ltb, leb, List, [], length, get_or, Some, None, Ok, Err, Option, Result, sym, refl, ap, ◌∙◌, subst, arith}
 use Rattle.std.proofs.lemmas.Bool.{cond-true, cond-false, and_parts, and_from}
 use Rattle.model.specs.Keyed.{is_in, every}
 use Rattle.model.specs.Messages.{Rules, Programs, ToServer, Login, Tick, For, Request, Run, Input, OutputCredit, Eof, Close, ToClient, Did, did, Fault, NeverStarted, TooManyTries, real}
-use Rattle.model.specs.Server.{Server, ServerChannel, flush_back, receive_by, serve, pass, pass_to, is_refused, channel_of, may_run, start, login_by, turn_of, turn, lose, cut_server}
+use Rattle.model.specs.Server.{Server, ServerChannel, flush_back, receive_by, pass_to, is_refused, channel_of, may_run, turn_of, cut_server}
 use Rattle.server_channel.specs.Kept.{Kept, heard, quiet}
 use Rattle.server_channel.specs.Turns.{turn_by}
 use Rattle.desk.specs.View as seen
 use Rattle.desk.specs.View.{View, Told, Nothing, owed_by, closed, number_in}
 use Rattle.desk.specs.Quiet.{silent, is_silent, login_fails, login_fails_in}
-use Rattle.desk.specs.Events.{login_to, start_to, start_at, refuse_at, is_fresh, took_at, cut_down, telling, turned_at}
+use Rattle.desk.specs.Events.{login_to, start_to, start_at, refuse_at, is_fresh, cut_down, telling, turned_at}
 use Rattle.desk.specs.Sight.{Finds, TakesAt, FaultsAt, TurnsAt}
-use Rattle.server.specs.Stands.{Fits, at, StandsFor, Follows, Meets}
-use Rattle.server.specs.Calls.{Under, Does, Does', Faulty, Faulty', Takes, Takes', Passes', may_user, turning, losing, fault_in, login_fault, pass_fault, fault_by, channel_fault}
+use Rattle.server.specs.Stands.{Fits, at, Follows}
+use Rattle.server.specs.Calls.{Under, Does, Does', Faulty, Faulty', Takes, Takes', Passes', may_user, turning, losing, fault_in, login_fault, pass_fault, fault_by}
 use Rattle.server.proofs.Finishing.{finished, bare, silent-owes, silent-quiet}
-use Rattle.server.proofs.Happening.{login-meets, cut-meets, still-meets, start-meets, took-meets, fault-meets, fault-found, dropped-meets, dropped-none, unknown, unknown-meets, turn-meets, no-turn-meets}
+use Rattle.server.proofs.Happening.{login-meets, cut-meets, still-meets, start-meets, took-meets, fault-meets, dropped-meets, dropped-none, unknown, unknown-meets, turn-meets, no-turn-meets}
 use Rattle.server.proofs.Standing.{found}
 use Rattle.server.proofs.Hearing.{hears-same, on_ok, became}
 use Rattle.desk.proofs.Slots.{some_one}

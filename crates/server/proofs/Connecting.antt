@@ -1,13 +1,13 @@
 -- When a new connection may come up.
-use Rattle.std.proofs.Common.{◌≡◌, ℕ, zero, suc, ◌<◌, ◌≤◌, Bool, true, false, cond, not, ◌&&◌, ◌||◌, leb, List, [], ◌∷◌, ◌++◌, map, length, Some, None, sym, refl, ap, ◌∙◌, subst, arith}
-use Rattle.std.proofs.lemmas.Bool.{and_left, and_right, and_from, le-leb}
+use Rattle.std.proofs.Common.{◌≡◌, ℕ, ◌<◌, Bool, true, false, cond, not, ◌&&◌, List, [], ◌++◌, map, length, sym, refl, ap, ◌∙◌, subst, arith}
+use Rattle.std.proofs.lemmas.Bool.{and_left, and_right, le-leb}
 use Rattle.model.specs.Keyed.{every, is_in, above, gather}
-use Rattle.model.specs.Server.{Server, ServerChannel, new_server, is_empty, server}
+use Rattle.model.specs.Server.{Server, ServerChannel, is_empty, server}
 use Rattle.server_channel.specs.Kept.{Kept, settled}
 use Rattle.desk.specs.View as seen
 use Rattle.desk.specs.View.{View, Nothing, owed_by, flushed, due_of}
 use Rattle.desk.specs.Sight.{Fresh}
-use Rattle.server.specs.Stands.{Stand, none, past, held, whole, Fits, Uses, Used, at, StandsFor}
+use Rattle.server.specs.Stands.{Stand, none, past, held, Used, StandsFor}
 use Rattle.server.specs.Calls.{Begins}
 
 module _ {S : Type 0} {up : Bool} {Good : ℕ → Type 0} where

@@ -1,15 +1,15 @@
 -- Once the model has done what was done to the view, what goes by itself is what the view owes.
-use Rattle.std.proofs.Common.{◌≡◌, ℕ, zero, suc, ◌+◌, ◌<◌, ◌≤◌, Bool, true, false, cond, not, ◌&&◌, ◌||◌, List, [], ◌∷◌, ◌++◌, map, length, get_or, Option, sym, refl, ap, ◌∙◌, subst, ⊎_elim, arith}
+use Rattle.std.proofs.Common.{◌≡◌, ℕ, zero, suc, ◌<◌, Bool, true, false, cond, not, ◌||◌, List, [], ◌∷◌, ◌++◌, map, length, get_or, Option, sym, refl, ap, ◌∙◌, subst, ⊎_elim, arith}
 use Rattle.std.proofs.lemmas.List.{append-nil}
 use Rattle.std.proofs.lemmas.Bool.{and_parts, and_cases}
 use Rattle.model.specs.Keyed.{gather, each, every}
-use Rattle.model.specs.Messages.{Rules, Reply, ToClient, Did, did, real}
-use Rattle.model.specs.Server.{Server, ServerChannel, server, flush_back, forget_all, returned, is_over, forgot, sent_back, with_all}
+use Rattle.model.specs.Messages.{Reply, ToClient, Did, did, real}
+use Rattle.model.specs.Server.{Server, ServerChannel, server, flush_back, returned, is_over, forgot, sent_back, with_all}
 use Rattle.server_channel.specs.Kept.{Kept, due, settled, quiet, goes}
 use Rattle.server_channel.proofs.Quiet.{quiet-due, quiet-settled, quiet-goes, loud-due}
 use Rattle.desk.specs.View as seen
 use Rattle.desk.specs.View.{View, Told, Nothing, Logged, Refused, Started, Freed, tells, due_of, owed_by, flushed, closed, has_ended, number_in}
-use Rattle.server.specs.Stands.{Stand, Fits, Uses, Used, at, StandsFor, Follows, Meets}
+use Rattle.server.specs.Stands.{Stand, Fits, Used, StandsFor, Follows, Meets}
 use Rattle.desk.specs.Quiet.{is_silent, silent}
 use Rattle.server.proofs.Standing.{all-over, all-forgot}
 use Rattle.server.proofs.Flushing.{gather-same, stand-flushed}

@@ -1,14 +1,14 @@
 -- What goes by itself, of what is held and of the model's channel alike.
-use Rattle.std.proofs.Common.{◌≡◌, ℕ, zero, suc, ◌+◌, ◌-◌, ◌<◌, ◌≤◌, min, Bool, true, false, cond, not, ◌&&◌, ◌||◌, eqb, List, [], ◌∷◌, ◌++◌, map, length, take, drop, sym, refl, ap, ◌∙◌, subst, ⊎_elim, arith}
+use Rattle.std.proofs.Common.{◌≡◌, ℕ, ◌+◌, ◌-◌, Bool, true, false, cond, not, ◌&&◌, ◌||◌, eqb, List, [], ◌∷◌, ◌++◌, map, length, take, drop, sym, refl, ap, ◌∙◌, subst, ⊎_elim, arith}
 use Rattle.std.proofs.lemmas.List.{append_assoc, take-append-drop, length-append, length-take, drop_at, take_all, drop_all, append-nil}
 use Rattle.std.proofs.lemmas.Bool.Decides.{nat_tests}
 use Rattle.std.proofs.lemmas.Bool.{cases_lt}
 use Rattle.model.specs.Keyed.{gather, each}
-use Rattle.model.specs.Messages.{Rules, Reply, ToClient, real, parts, is_some}
+use Rattle.model.specs.Messages.{real, parts, is_some}
 use Rattle.model.specs.Server.{ServerChannel, goes_back, exit_now, exit_reply, outputs, replies, sent_back, replies_of, returned, sent_kept}
 use Rattle.server_channel.specs.declared.Life.{Life}
 use Rattle.server_channel.specs.declared.Life.TheVariants.{Running, Ended}
-use Rattle.server_channel.specs.Kept.{Kept, kept, goes, exit_due, due, settled, is_running, exit_of}
+use Rattle.server_channel.specs.Kept.{Kept, goes, exit_due, due, settled, is_running, exit_of}
 use Rattle.desk.specs.View.{number_in, due_of}
 use Rattle.server.specs.Stands.{Past, whole, state_of, Stand, none, past, held}
 

@@ -1,13 +1,11 @@
 -- What is done to what is held is what the model does, before anything goes by itself.
-use Rattle.std.proofs.Common.{◌≡◌, ℕ, zero, suc, ◌+◌, ◌-◌, ◌<◌, ◌≤◌, Bool, true, false, cond, not, ◌&&◌, ◌||◌, eqb, ltb, leb, ◌⊎◌, List, [], ◌∷◌, ◌++◌, length, get_or, take, drop, set, Some, None, Ok, Err, Option, Result, sym, refl, ap, ◌∙◌, subst, inl, inr, ⊎_elim, arith}
-use Rattle.std.proofs.lemmas.Bool.{cond-true, cond-false, eq-eqb, ne_eqb, cases_eq, leb-true, le-ltb}
-use Rattle.std.proofs.lemmas.Bool.Decides.{nat_tests}
+use Rattle.std.proofs.Common.{◌≡◌, ℕ, zero, suc, ◌<◌, ◌≤◌, Bool, true, false, cond, not, ◌&&◌, ◌||◌, ltb, leb, List, [], ◌∷◌, ◌++◌, length, get_or, set, Some, None, Ok, Err, Option, sym, refl, ap, ◌∙◌, subst, ⊎_elim, arith}
+use Rattle.std.proofs.lemmas.Bool.{cond-true, cond-false, leb-true, le-ltb}
 use Rattle.std.proofs.lemmas.List.{set-get_or}
-use Rattle.model.specs.Keyed.{find, change, count, is_in, above}
+use Rattle.model.specs.Keyed.{change, is_in, above}
 use Rattle.model.specs.Messages as msg
 use Rattle.model.specs.Messages.{Programs, ToClient, Did, did, real, Request, Run, Input, OutputCredit, Eof, Close, Fault, NeverStarted}
-use Rattle.model.specs.Server as model
-use Rattle.model.specs.Server.{Server, ServerChannel, server, login_by, start, pass, passed, pass_to, turn_of, took_turn, turn_in, input_credit, new_program, channel_of, number_at, is_kept, forgot, cut_server, may_run, whom, hear_kept, is_refused}
+use Rattle.model.specs.Server.{Server, ServerChannel, server, login_by, start, pass, passed, pass_to, turn_of, took_turn, turn_in, input_credit, new_program, channel_of, number_at, forgot, cut_server, may_run, whom, hear_kept, is_refused}
 use Rattle.server_channel.specs.declared.Counts.{Counts}
 use Rattle.server_channel.specs.declared.Life.{Life}
 use Rattle.server_channel.specs.declared.Life.TheVariants.{Running, Ended}
@@ -15,12 +13,12 @@ use Rattle.server_channel.specs.Kept.{Kept, kept, heard, goes, started}
 use Rattle.server_channel.specs.Turns as view
 use Rattle.desk.specs.View.{View, Told, Nothing, number_in}
 use Rattle.desk.specs.View as seen
-use Rattle.server.specs.Stands.{Past, whole, Stand, Fits, Uses, Used, at, Meets}
-use Rattle.desk.specs.Events.{login_in, login_to, start_to, is_fresh, marked, took_at, cut_down, turned_at, freed, telling, holding}
+use Rattle.server.specs.Stands.{Past, whole, Stand, Fits, Used, at, Meets}
+use Rattle.desk.specs.Events.{login_in, login_to, start_to, is_fresh, marked, took_at, cut_down, turned_at, freed, telling}
 use Rattle.server.specs.Calls.{pass_fault, fault_by}
-use Rattle.server.proofs.Standing.{found, put, removed, missing, counted, widened, added, cut_down}
+use Rattle.server.proofs.Standing.{found, put, removed, missing, counted, widened, added, cut-down}
 use Rattle.server.proofs.Numbers.{uses-more, good_more, good_new}
-use Rattle.server.proofs.OneTurn.{turn-same, Same}
+use Rattle.server.proofs.OneTurn.{turn-same}
 use Rattle.server.proofs.Hearing.{hears-same, on_ok, became, same_number}
 
 module _ {S E : Type 0} where
@@ -33,7 +31,7 @@ module _ {S E : Type 0} where
 
 module _ {S : Type 0} where
   pub cut_fits : (up : Bool) {Good : ℕ → Type 0} {ks : List (Kept S)} {xs : List (ServerChannel S)} → Stand up Good 0 ks xs → Stand false Good 0 ks xs
-  cut_fits true st = cut_down st
+  cut_fits true st = cut-down st
   cut_fits false st = st
 
 module _ {S E : Type 0} (a : ℕ → ℕ → List ℕ → Bool) (m : ℕ → ℕ → Bool) (p : Programs S E) (v : View S) (e : E) (xs : List (ServerChannel S)) (used : List ℕ) (f : Fits v xs used) where

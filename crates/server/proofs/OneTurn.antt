@@ -1,8 +1,8 @@
 -- A turn of what is held is the model's turn of the channel.
-use Rattle.std.proofs.Common.{◌≡◌, ℕ, zero, suc, ◌+◌, ◌-◌, ◌<◌, ◌≤◌, min, Bool, true, false, cond, not, ◌&&◌, ◌||◌, eqb, ltb, leb, List, [], ◌∷◌, ◌++◌, length, take, drop, sym, refl, ap, ◌∙◌, subst, arith}
+use Rattle.std.proofs.Common.{◌≡◌, ℕ, ◌+◌, Bool, true, false, cond, not, ◌||◌, eqb, ltb, leb, List, [], ◌++◌, length, take, drop, sym, refl, ap, ◌∙◌, arith}
 use Rattle.std.proofs.lemmas.List.{append_assoc, append-nil, length-append, length-take, drop_at}
 use Rattle.std.proofs.lemmas.Bool.Decides.{nat_tests}
-use Rattle.model.specs.Messages.{Rules, Programs, Does, Reads, Writes, Ends, GoesOn, real, is_some}
+use Rattle.model.specs.Messages.{Programs, Does, Reads, Writes, Ends, GoesOn, real}
 use Rattle.model.specs.Server as model
 use Rattle.model.specs.Server.{ServerChannel, portion, doing, drained, turn_in}
 use Rattle.server_channel.specs.declared.Counts.{Counts}

@@ -1,5 +1,5 @@
 -- What is so of channels that stand for the model's: one is found, changed, added, forgotten.
-use Rattle.std.proofs.Common.{◌≡◌, ℕ, zero, suc, ◌+◌, ◌-◌, ◌<◌, ◌≤◌, Bool, true, false, cond, not, ◌&&◌, ◌||◌, eqb, ◌⊎◌, List, [], ◌∷◌, ◌++◌, length, get_or, take, drop, set, Some, None, Option, sym, refl, ap, ◌∙◌, subst, inl, inr, ⊎_elim, arith}
+use Rattle.std.proofs.Common.{◌≡◌, ℕ, zero, suc, ◌+◌, ◌<◌, ◌≤◌, Bool, true, false, cond, not, ◌&&◌, ◌||◌, eqb, ◌⊎◌, List, [], ◌∷◌, ◌++◌, length, get_or, take, drop, set, Some, None, sym, refl, ap, ◌∙◌, subst, inl, inr, ⊎_elim, arith}
 use Rattle.std.proofs.lemmas.Bool.{cond-true, cond-false, eq-eqb, ne_eqb, cases_eq}
 use Rattle.model.specs.Keyed.{find, change, count, every, each}
 use Rattle.model.specs.Server.{ServerChannel, number_at, is_kept, is_over, forgot}
@@ -142,7 +142,7 @@ module _ {S : Type 0} {up : Bool} {Good Better : ℕ → Type 0} where
 
 module _ {S : Type 0} {Good : ℕ → Type 0} where
   -- when the server goes down
-  pub cut_down : {lo : ℕ} {ks : List (Kept S)} {xs : List (ServerChannel S)} → Stand true Good lo ks xs → Stand false Good lo ks xs
-  cut_down none = none
-  cut_down (past h a g st) = past h a g (cut_down st)
-  cut_down (held {k = k} p e a g st) = held (cut_past k p) e a g (cut_down st)
+  pub cut-down : {lo : ℕ} {ks : List (Kept S)} {xs : List (ServerChannel S)} → Stand true Good lo ks xs → Stand false Good lo ks xs
+  cut-down none = none
+  cut-down (past h a g st) = past h a g (cut-down st)
+  cut-down (held {k = k} p e a g st) = held (cut_past k p) e a g (cut-down st)

@@ -1,6 +1,5 @@
 -- What the calls of a server do, for every server of the model that it stands for. Assumes nothing.
 use Rattle.std.specs.Prelude.{◌≡◌, ℕ, suc, Bool, true, false, cond, not, ◌&&◌, List, [], ◌∷◌, ◌++◌, Some, None, Ok, Err, Option, Result, nat_lt}
-use Rattle.model.specs.Keyed.{numbers}
 use Rattle.model.specs.Messages.{Rules, Programs, ToServer, Login, Tick, For, Request, Run, Input, OutputCredit, Eof, Close, ToClient, Did, did, Fault, TooManyTries, real}
 use Rattle.model.specs.Server.{Server, ServerChannel, new_server, channel_of, pass_to, is_refused, pass, receive_by, serve, turn, lose, is_empty}
 use Rattle.server_channel.specs.Kept.{Kept}

@@ -1,4 +1,6 @@
 // The server as a value, for any programs and any accounts: messages in, turns, messages out, and no IO.
+#![tactic(auto)]
+
 use desk::Desk;
 use message::fault::Fault;
 use programs::accounts::Accounts;

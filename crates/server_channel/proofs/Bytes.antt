@@ -1,5 +1,5 @@
 -- A ring holds no more than it can.
-use Rattle.std.proofs.Common.{ℕ, ◌≤◌, length, arith}
+use Rattle.std.proofs.Common.{◌≤◌, length, arith}
 use Rattle.ring.specs.Held.{held, capacity_of}
 use Rattle.ring.specs.declared.Ring.{Ring}
 use Rattle.ring.proofs.Turned.{length-held}

@@ -1,14 +1,14 @@
 -- What goes of a channel by itself: the first of it, and the rest.
-use Rattle.std.proofs.Common.{◌≡◌, ℕ, zero, suc, ◌+◌, ◌-◌, ◌<◌, ◌≤◌, min, Bool, true, false, cond, not, ◌&&◌, ◌||◌, eqb, ltb, List, [], ◌∷◌, ◌++◌, length, take, drop, Some, None, Option, sym, refl, ap, ◌∙◌, subst, ⊎_elim, arith}
+use Rattle.std.proofs.Common.{◌≡◌, ℕ, zero, suc, ◌+◌, ◌-◌, ◌<◌, ◌≤◌, min, Bool, true, false, cond, not, ◌&&◌, ◌||◌, eqb, ltb, List, [], ◌∷◌, ◌++◌, length, take, drop, Some, None, Option, sym, refl, ap, ◌∙◌, ⊎_elim, arith}
 use Rattle.model.specs.Messages as model
 use Rattle.model.specs.Messages.{parts}
 use Rattle.model.specs.Server.{outputs, exit_reply}
-use Rattle.std.proofs.lemmas.List.{drop-take, length-take, length-drop, drop-drop, nil_from_length, take_all, drop_all, append-nil}
+use Rattle.std.proofs.lemmas.List.{drop-take, length-take, length-drop, drop-drop, take_all, drop_all}
 use Rattle.std.proofs.lemmas.Bool.{and_right, cases_lt, eq-eqb, or_parts, ltb-false}
 use Rattle.std.proofs.lemmas.Bool.Decides.{nat_tests}
 use Rattle.server_channel.specs.declared.Life.{Life}
 use Rattle.server_channel.specs.declared.Life.TheVariants.{Running, Ended}
-use Rattle.server_channel.specs.Kept.{Kept, kept, credit_of, said_of, goes, exit_due, due, settled, exit_of, is_running, exit_now, exit_now_in, quiet}
+use Rattle.server_channel.specs.Kept.{Kept, kept, credit_of, said_of, goes, exit_due, due, settled, exit_of, is_running, exit_now, exit_now_in}
 
 -- enough is enough
 pub parts-enough : (m n p : ℕ) (xs : List ℕ) → length xs ≤ m → length xs ≤ n → parts m (suc p) xs ≡ parts n (suc p) xs

@@ -1,5 +1,5 @@
 -- Input that is taken in, and input that is too much.
-use Rattle.std.proofs.Common.{◌≡◌, ℕ, ◌+◌, ◌<◌, ◌≤◌, true, false, List, ◌++◌, length, Ok, Err, sym, refl, ap, ◌∙◌}
+use Rattle.std.proofs.Common.{◌≡◌, ℕ, ◌+◌, ◌<◌, ◌≤◌, false, List, ◌++◌, length, Ok, Err, sym, ap, ◌∙◌}
 use Rattle.model.specs.Messages as model
 use Rattle.std.proofs.lemmas.Bool.{cond-false, cond-true, le-ltb, lt-ltb}
 use Rattle.server_channel.specs.Kept.{Kept, kept, heard}

@@ -1,12 +1,12 @@
 -- A channel of which nothing goes: it owes nothing, and is settled.
-use Rattle.std.proofs.Common.{◌≡◌, ℕ, zero, suc, ◌+◌, ◌-◌, ◌<◌, ◌≤◌, min, Bool, true, false, cond, not, ◌&&◌, ◌||◌, eqb, ltb, List, [], ◌∷◌, ◌++◌, length, take, drop, Some, None, Option, sym, refl, ap, ◌∙◌, subst, arith}
+use Rattle.std.proofs.Common.{◌≡◌, ℕ, ◌-◌, Bool, true, false, cond, not, ◌&&◌, ◌||◌, eqb, ltb, [], length, drop, Some, None, Option, sym, refl, ap, ◌∙◌, arith}
 use Rattle.model.specs.Messages as model
-use Rattle.std.proofs.lemmas.Bool.{and_parts, and_cases, eqb-true, eqb-false, not-true, not-false}
+use Rattle.std.proofs.lemmas.Bool.{and_parts, eqb-true, eqb-false}
 use Rattle.std.proofs.lemmas.Bool.Decides.{nat_tests}
 use Rattle.server_channel.specs.declared.Life.{Life}
 use Rattle.server_channel.specs.declared.Life.TheVariants.{Running, Ended}
-use Rattle.server_channel.specs.Kept.{Kept, kept, credit_of, said_of, goes, exit_due, due, settled, exit_of, is_running, exit_now, exit_now_in, quiet}
-use Rattle.server_channel.proofs.Due.{due-over, due-output, due-exiting, length-goes}
+use Rattle.server_channel.specs.Kept.{Kept, kept, credit_of, said_of, goes, exit_due, due, settled, is_running, exit_now, exit_now_in, quiet}
+use Rattle.server_channel.proofs.Due.{due-over, due-output, due-exiting}
 
 none-there : (o : Option ℕ) → not (model.is_some o) ≡ true → o ≡ None
 none-there None h = refl

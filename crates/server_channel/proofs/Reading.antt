@@ -1,11 +1,11 @@
 -- A program that reads waits, or is told what came.
-use Rattle.std.proofs.Common.{◌≡◌, ℕ, ◌<◌, ◌≤◌, Bool, true, false, cond, not, ◌&&◌, ◌||◌, eqb, ltb, leb, List, length, take, drop, sym, refl, ap, ◌∙◌, subst, arith}
+use Rattle.std.proofs.Common.{◌≡◌, ℕ, ◌<◌, ◌≤◌, Bool, true, false, ◌||◌, eqb, ltb, List, length, take, drop, sym, ap, ◌∙◌, arith}
 use Rattle.model.specs.Messages.{Programs, Reads}
 use Rattle.std.proofs.lemmas.List.{length-take}
 use Rattle.std.proofs.lemmas.Bool.{cond-true, cond-false}
 use Rattle.std.proofs.lemmas.Bool.Decides.{nat_tests}
 use Rattle.server_channel.specs.Kept.{Kept, kept}
-use Rattle.server_channel.specs.Turns.{Turned, TurnsTo, turned, fits, dry, acts, reads, ends, env_after, life_after}
+use Rattle.server_channel.specs.Turns.{Turned, TurnsTo, turned, fits, dry, acts, reads, env_after, life_after}
 
 module _ {S E : Type 0} (p : Programs S E) where
   stays : (y : Turned S E) (e : E) (k : Kept S) (n : ℕ) → y ≡ turned e k n → TurnsTo y e k n

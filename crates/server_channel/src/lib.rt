@@ -1,4 +1,6 @@
 // One channel of the server: its numbers, its program's life, and the bytes that wait each way, in memory that is got once.
+#![tactic(auto)]
+
 ghost use Rattle.std.specs.Prelude.{◌≡◌};
 ghost use Rattle.ring.specs.Held.{capacity_of};
 

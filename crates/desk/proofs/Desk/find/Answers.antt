@@ -1,4 +1,4 @@
-use Rattle.std.proofs.Common.{◌≡◌, ◌<◌, ◌≤◌, length, vec_items, sym, refl, ap, ◌∙◌, arith, rules, below_more}
+use Rattle.std.proofs.Common.{vec_items, sym, ap, ◌∙◌, arith, below_more}
 use Rattle.desk.specs.View.{number_in}
 use Rattle.desk.proofs.Slots.{length-kept, kept-at}
 use Rattle.desk.proofs.Desk.find.Goals as goal

@@ -1,4 +1,4 @@
-use Rattle.std.proofs.Common.{◌≡◌, ℕ, ◌<◌, length, get_or}
+use Rattle.std.proofs.Common.{◌≡◌, ℕ, ◌<◌, get_or}
 use Rattle.server_channel.specs.Kept.{Kept}
 use Rattle.desk.specs.View.{number_in}
 use Rattle.desk.specs.Sight.{view_of}

@@ -1,4 +1,4 @@
-use Rattle.std.proofs.Common.{◌≡◌, ◌-◌, [], ◌∷◌, ◌++◌, take, vec_items, sym, refl, ap, ◌∙◌, arith, rules}
+use Rattle.std.proofs.Common.{◌-◌, [], ◌∷◌, ◌++◌, take, vec_items, ap, ◌∙◌, arith}
 use Rattle.desk.specs.View.{view, Nothing}
 use Rattle.desk.specs.Sight.{view_of, kept_in}
 use Rattle.desk.proofs.Slots.{kept-forgot}
@@ -10,5 +10,5 @@ returns g c =
     let v = view_of s in
     let o = s.ok in
     let z = s.slots.ok.0 in
-    let k = ap (λ ys. kept_in (take (s.held - 1) ys)) (c.push-reserved.ensures.items ∙ ap (λ zs. zs ++ c.remove-slot.result ∷ []) c.remove-slot.ensures.items) ∙ kept-forgot s.held c.args.i (vec_items s.slots) c.remove-slot.result c.requires (omega arith) in
+    let k = ap (λ ys. kept_in (take (s.held - 1) ys)) (c.push_reserved.ensures.items ∙ ap (λ zs. zs ++ c.remove-slot.result ∷ []) c.remove-slot.ensures.items) ∙ kept-forgot s.held c.args.i (vec_items s.slots) c.remove-slot.result c.requires (omega arith) in
     λ j. view (k j) v.next v.is_used v.user v.tries v.up Nothing

@@ -1,4 +1,4 @@
-use Rattle.std.proofs.Common.{◌≡◌, suc, ◌++◌, length, take, drop, set, sym, refl, ap, ◌∙◌, arith, rules}
+use Rattle.std.proofs.Common.{suc, ◌++◌, length, take, drop, sym, ap, ◌∙◌, arith}
 use Rattle.std.proofs.lemmas.List.{take-set, drop-set-lt, length-set}
 use Rattle.message.specs.Views.{request}
 use Rattle.desk.specs.Events.{took_at, holding}
@@ -10,9 +10,9 @@ use Rattle.desk.proofs.Desk.hear.Goals as goal
 pub forget-requires : goal.forget-requires
 forget-requires g c =
     let s = c.args.self.now in
-    let p = c.in-ok-take-in.ensures in
+    let p = c.in_ok-take_in.ensures in
     let a = desk-length s in
-    let b = desk-length c.take-in-2.new.self in
+    let b = desk-length c.take_in-2.new.self in
     let e = ap (λ v. length v.channels) p.after in
     let n = length-set (view_of s).channels c.args.i p.left in
     omega arith
@@ -22,7 +22,7 @@ returns g c =
     let s = c.args.self.now in
     let v = view_of s in
     let i = c.args.i in
-    let p = c.in-ok-take-in.ensures in
+    let p = c.in_ok-take_in.ensures in
     record {
       left = p.left;
       hears = p.hears;

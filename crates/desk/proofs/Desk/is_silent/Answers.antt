@@ -1,5 +1,5 @@
-use Rattle.std.proofs.Common.{◌≡◌, sym, refl, ap, ◌∙◌, rules}
-use Rattle.server_channel.specs.Kept.{quiet, kept_of}
+use Rattle.std.proofs.Common.{sym, ap}
+use Rattle.server_channel.specs.Kept.{quiet}
 use Rattle.desk.specs.Sight.{view_of, told_by}
 use Rattle.desk.specs.Quiet.{is_silent}
 use Rattle.desk.proofs.Slots.{one-fails, is-silent, is-loud, some_one}

@@ -1,4 +1,4 @@
-use Rattle.std.proofs.Common.{vec_items, refl, rules}
+use Rattle.std.proofs.Common.{vec_items, refl}
 use Rattle.desk.proofs.Slots.{kept-none}
 use Rattle.desk.proofs.Desk.reset.Goals as goal
 

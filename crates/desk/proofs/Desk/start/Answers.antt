@@ -1,4 +1,4 @@
-use Rattle.std.proofs.Common.{◌≡◌, suc, ◌+◌, ◌<◌, [], ◌∷◌, ◌++◌, length, take, set, vec_items, sym, refl, ap, ◌∙◌, arith, rules}
+use Rattle.std.proofs.Common.{◌≡◌, suc, ◌+◌, [], ◌∷◌, ◌++◌, take, set, vec_items, ap, ◌∙◌, arith}
 use mathlib.Core.Path.{fun_ext}
 use Rattle.desk.specs.View.{view, Started}
 use Rattle.desk.specs.Sight.{view_of, kept_in}

@@ -1,4 +1,4 @@
-use Rattle.std.proofs.Common.{◌≡◌, set, vec_items, sym, refl, ap, ◌∙◌, rules}
+use Rattle.std.proofs.Common.{set, vec_items, sym, ap, ◌∙◌}
 use Rattle.model.specs.Messages.{Programs}
 use Rattle.programs.specs.Actions.{programs_by}
 use Rattle.server_channel.specs.Turns.{turn_by}
@@ -18,7 +18,7 @@ returns g c =
     let v = view_of s in
     let i = c.args.i in
     let e = c.args.programs.now in
-    let there = desk-at s i c.index-mut.result.now c.requires c.index-mut.ensures.value in
+    let there = desk-at s i c.index_mut.result.now c.requires c.index_mut.ensures.value in
     let t = c.turn-freed.ensures.turned in
     let k = kept_set s.held i (vec_items s.slots) c.turn-freed.new.channel c.requires in
     record {
@@ -27,5 +27,5 @@ returns g c =
           let l = k ∙ ap (set v.channels i) (t.left ∙ ap (λ x. (turn_by (progs g) v.up e x).kept) (sym (there d))) in
           let n = c.number-number.ensures ∙ ap number_in (sym (desk-at s i c.index.result.now c.requires c.index.ensures d)) in
           let f = t.freed ∙ ap (λ x. (turn_by (progs g) v.up e x).freed) (sym (there d)) in
-          λ j. view (l j) v.next v.is_used v.user v.tries v.up ((c.freed-notice-desk.ensures ∙ (λ m. freed (n m) (f m))) j);
+          λ j. view (l j) v.next v.is_used v.user v.tries v.up ((c.freed_notice-desk.ensures ∙ (λ m. freed (n m) (f m))) j);
     }

@@ -1,4 +1,4 @@
-use Rattle.std.proofs.Common.{◌≡◌, ◌≤◌, vec_len, vec_capacity}
+use Rattle.std.proofs.Common.{◌≡◌, vec_len}
 use Rattle.desk.proofs.make.slots.Given as goal
 
 abbrev pub invariant-loop-i : goal.invariant-loop-i

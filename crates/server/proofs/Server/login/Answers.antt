@@ -1,9 +1,7 @@
-use Rattle.std.proofs.Common.{◌≡◌, ℕ, ◌<◌, Bool, true, false, cond, List, length, sym, refl, ap, ◌∙◌, subst, arith, rules}
+use Rattle.std.proofs.Common.{true, false, sym, refl, ◌∙◌}
 use Rattle.model.specs.Messages.{Programs}
-use Rattle.message.specs.Views.{request, fault, to_server}
 use Rattle.programs.specs.Actions.{programs_by}
 use Rattle.desk.specs.Sight.{view_of}
-use Rattle.desk.proofs.Slots.{desk-length}
 use Rattle.server.proofs.Calling.{login-left}
 use Rattle.server.proofs.Server.login.Given as given
 use Rattle.server.proofs.Server.login.Goals as goal
@@ -14,9 +12,9 @@ progs g = programs_by g.P.Programs.first g.P.Programs.does g.P.Programs.next g.P
 pub returns-then-login : goal.returns-then-login
 returns-then-login g c =
     let s = c.args.self.now in
-    record { after = login-left (g.A.Accounts.accepts s.accounts) (g.A.Accounts.may s.accounts) (progs g) (view_of s.desk) (view_of c.login.new.self) s.programs c.args.user c.args.proof.now c.is-right-right.result true c.is-right-right.ensures c.login.ensures.after (sym c.if-login.true ∙ c.login.ensures.fault); same = refl }
+    record { after = login-left (g.A.Accounts.accepts s.accounts) (g.A.Accounts.may s.accounts) (progs g) (view_of s.desk) (view_of c.login.new.self) s.programs c.args.user c.args.proof.now c.is_right-right.result true c.is_right-right.ensures c.login.ensures.after (sym c.if-login.true ∙ c.login.ensures.fault); same = refl }
 
 pub returns-else-login : goal.returns-else-login
 returns-else-login g c =
     let s = c.args.self.now in
-    record { after = login-left (g.A.Accounts.accepts s.accounts) (g.A.Accounts.may s.accounts) (progs g) (view_of s.desk) (view_of c.login.new.self) s.programs c.args.user c.args.proof.now c.is-right-right.result false c.is-right-right.ensures c.login.ensures.after (sym c.if-login.false ∙ c.login.ensures.fault); same = refl }
+    record { after = login-left (g.A.Accounts.accepts s.accounts) (g.A.Accounts.may s.accounts) (progs g) (view_of s.desk) (view_of c.login.new.self) s.programs c.args.user c.args.proof.now c.is_right-right.result false c.is_right-right.ensures c.login.ensures.after (sym c.if-login.false ∙ c.login.ensures.fault); same = refl }

@@ -1,7 +1,7 @@
-use Rattle.std.proofs.Common.{refl, rules}
+use Rattle.std.proofs.Common.{refl}
 use Rattle.desk.specs.Sight.{view_of}
 use Rattle.server.proofs.Connecting.{begins}
 use Rattle.server.proofs.Server.new.Goals as goal
 
 pub returns : goal.returns
-returns g c = (begins (view_of c.in-ok-desk.desk) c.args.programs c.in-ok-desk.ensures, refl, refl)
+returns g c = (begins (view_of c.in_ok-desk.desk) c.args.programs c.in_ok-desk.ensures, refl, refl)

@@ -1,6 +1,6 @@
-use Rattle.std.proofs.Common.{◌≡◌, ℕ, ◌<◌, Bool, true, false, cond, List, length, sym, refl, ap, ◌∙◌, subst, arith, rules}
+use Rattle.std.proofs.Common.{refl, arith}
 use Rattle.model.specs.Messages.{Programs}
-use Rattle.message.specs.Views.{request, fault, to_server}
+use Rattle.message.specs.Views.{request, fault}
 use Rattle.programs.specs.Actions.{programs_by}
 use Rattle.desk.specs.Sight.{view_of}
 use Rattle.desk.proofs.Slots.{desk-length}

@@ -1,11 +1,9 @@
-use Rattle.std.proofs.Common.{◌≡◌, ℕ, ◌<◌, Bool, true, false, cond, List, length, sym, refl, ap, ◌∙◌, subst, arith, rules}
+use Rattle.std.proofs.Common.{refl, arith}
 use Rattle.model.specs.Messages.{Programs}
-use Rattle.message.specs.Views.{request, fault, to_server}
 use Rattle.programs.specs.Actions.{programs_by}
 use Rattle.desk.specs.Sight.{view_of}
 use Rattle.desk.proofs.Slots.{desk-length}
 use Rattle.server.proofs.Calling.{turned_left}
-use Rattle.server.proofs.Finishing.{loud-owes, silent-owes}
 use Rattle.server.proofs.Server.turn_at.Given as given
 use Rattle.server.proofs.Server.turn_at.Goals as goal
 

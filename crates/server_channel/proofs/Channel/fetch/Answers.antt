@@ -1,8 +1,8 @@
-use Rattle.std.proofs.Common.{◌≡◌, ◌≤◌, min, length, take, drop, sym, refl, ap, ◌∙◌, arith, rules}
+use Rattle.std.proofs.Common.{◌≡◌, min, length, take, drop, sym, ap, ◌∙◌, arith}
 use Rattle.ring.specs.Held.{held}
 use Rattle.message.specs.Views.{chunk_bytes}
 use Rattle.std.proofs.lemmas.List.{length-take}
-use Rattle.server_channel.specs.Kept.{kept_of, kept}
+use Rattle.server_channel.specs.Kept.{kept}
 use Rattle.server_channel.proofs.Due.{take_min}
 use Rattle.server_channel.proofs.Channel.fetch.Goals as goal
 

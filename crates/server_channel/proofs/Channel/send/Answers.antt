@@ -1,7 +1,7 @@
-use Rattle.std.proofs.Common.{◌≡◌, ◌≤◌, length, take, sym, refl, ap, ◌∙◌, arith, rules}
+use Rattle.std.proofs.Common.{◌≤◌, sym, ◌∙◌, arith, rules}
 use Rattle.ring.specs.Held.{held}
 use Rattle.std.proofs.lemmas.List.{take-take}
-use Rattle.server_channel.specs.Kept.{kept_of, kept, goes}
+use Rattle.server_channel.specs.Kept.{kept_of, kept}
 use Rattle.server_channel.proofs.Due.{length-goes}
 use Rattle.server_channel.proofs.Channel.send.Goals as goal
 
