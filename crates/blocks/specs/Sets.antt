@@ -1,5 +1,5 @@
 -- A set of block numbers below 2,048 as 256 bytes, one bit a number. Assumes nothing.
-use Rattle.std.specs.Prelude.{ℕ, zero, suc, ◌+◌, ◌/◌, ◌%◌, ◌^◌, Bool, true, false, cond, not, ◌&&◌, List, [], ◌++◌, set, replicate, Some, None, Option, ◌==◌, bit_or, nat_lt, slice_index, slice_set}
+use Rattle.std.specs.Prelude.{ℕ, zero, suc, ◌+◌, ◌/◌, ◌%◌, ◌^◌, Bool, cond, not, ◌&&◌, List, replicate, Some, None, Option, ◌==◌, bit_or, nat_lt, slice_index, slice_set}
 
 -- whether a number is in a set
 unfoldable pub has : List ℕ → ℕ → Bool

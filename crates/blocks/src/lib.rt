@@ -1,4 +1,6 @@
 // A set of block numbers below 2,048: one bit a number.
+#![tactic(auto)]
+
 ghost use Rattle.std.specs.Prelude.{◌≡◌, ℕ, ◌-◌, ◌<◌, ◌||◌, leb, length, if◌then◌else◌, Some, None};
 ghost use Rattle.blocks.specs.Sets.{has, with, none, tally, first, is_free, lowest};
 

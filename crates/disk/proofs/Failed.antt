@@ -1,5 +1,5 @@
 -- What a disk leaves that crashes at a chosen write.
-use Rattle.std.proofs.Common.{◌≡◌, ℕ, suc, ◌-◌, ◌<◌, Bool, true, false, cond, ◌⊎◌, List, replicate, None, sym, refl, ap, ◌∙◌, subst, inl, inr, ⊎_elim, arith}
+use Rattle.std.proofs.Common.{◌≡◌, ℕ, suc, ◌-◌, ◌<◌, Bool, true, false, cond, List, replicate, sym, ap, ◌∙◌, inl, inr, ⊎_elim, arith}
 use Rattle.record.specs.Records.{decode}
 use Rattle.record.proofs.Coding.{fresh}
 use Rattle.disk.specs.Disks.{Blocks, Torn, Written, Wrote}

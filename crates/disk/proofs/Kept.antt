@@ -1,10 +1,10 @@
 -- What a write in memory leaves.
-use Rattle.std.proofs.Common.{◌≡◌, ℕ, ◌<◌, ◌≤◌, Bool, true, false, cond, ltb, ◌⊎◌, List, length, get_or, set, replicate, vec_items, vec_len, sym, refl, ap, ◌∙◌, subst, inl, inr, ⊎_elim, arith}
+use Rattle.std.proofs.Common.{◌≡◌, ℕ, ◌<◌, ◌≤◌, Bool, true, false, cond, ltb, List, length, get_or, set, replicate, vec_len, sym, refl, ap, ◌∙◌, subst, inl, ⊎_elim, arith}
 use Rattle.std.specs.Vec.{with_item}
 use Rattle.std.proofs.lemmas.List.{get_or-set_same, get_or-set_other, get_or-replicate, get_or_past, length-replicate}
 use Rattle.std.proofs.lemmas.Bool.{lt-ltb, le-ltb, cases_lt}
-use Rattle.disk.specs.Disks.{Blocks, Torn, Wrote}
-use Rattle.disk.specs.Memories.{memory_block, memory_wrote}
+use Rattle.disk.specs.Disks.{Blocks, Wrote}
+use Rattle.disk.specs.Memories.{memory_wrote}
 use Rattle.disk.specs.declared.memory.Memory.{Memory}
 
 pub down-stays : (d : Memory) (b : ℕ) (x : List ℕ) → d.up ≡ false → d ≡ memory_wrote d b x

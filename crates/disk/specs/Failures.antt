@@ -1,5 +1,5 @@
 -- A disk that crashes at a chosen write. Assumes nothing.
-use Rattle.std.specs.Prelude.{ℕ, zero, suc, Bool, true, false, cond, ◌&&◌, List, replicate}
+use Rattle.std.specs.Prelude.{ℕ, zero, suc, Bool, false, cond, List, replicate}
 use Rattle.disk.specs.declared.failing.Failing.{Failing}
 use Rattle.disk.specs.declared.failing.Leaves.{Leaves}
 use Rattle.disk.specs.declared.failing.Leaves.TheVariants.{Old, New, Zeros}

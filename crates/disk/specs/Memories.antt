@@ -1,5 +1,5 @@
 -- Blocks in memory. Assumes nothing.
-use Rattle.std.specs.Prelude.{ℕ, Bool, true, false, cond, List, replicate, vec_items, vec_len, nat_lt, slice_index_or}
+use Rattle.std.specs.Prelude.{ℕ, true, false, cond, List, replicate, vec_items, vec_len, nat_lt, slice_index_or}
 use Rattle.std.specs.Vec.{with_item}
 use Rattle.disk.specs.declared.memory.Memory.{Memory}
 

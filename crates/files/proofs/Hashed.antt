@@ -1,6 +1,6 @@
 -- A file's bytes, taken in block by block.
-use Rattle.std.proofs.Common.{◌≡◌, ℕ, zero, suc, ◌+◌, ◌-◌, ◌^◌, ◌<◌, ◌≤◌, min, Bool, true, false, cond, List, [], ◌∷◌, ◌++◌, length, take, drop, Ok, Err, Result, sym, refl, ap, ◌∙◌, subst, ⊎_elim, add-one, arith, MatchResult}
-use Rattle.std.proofs.lemmas.List.{take_all, length-append, append-nil, length-take}
+use Rattle.std.proofs.Common.{◌≡◌, ℕ, zero, suc, ◌+◌, ◌-◌, ◌^◌, ◌<◌, ◌≤◌, min, Bool, true, false, cond, List, [], ◌∷◌, ◌++◌, length, take, Ok, Err, Result, sym, refl, ap, ◌∙◌, ⊎_elim, add-one, arith, MatchResult}
+use Rattle.std.proofs.lemmas.List.{take_all, append-nil, length-take}
 use Rattle.std.proofs.lemmas.Bool.{cases_lt}
 use Rattle.sha256.specs.Stream.{Holds, Updated}
 use Rattle.sha256.specs.declared.stream.Sha256.{Sha256}

@@ -1,4 +1,6 @@
 // put and get as programs over the store.
+#![tactic(auto)]
+
 pub mod digests;
 pub mod files;
 pub mod files_programs;

@@ -7,9 +7,9 @@ ghost use Rattle.files.specs.declared.transfer.Which.TheVariants.{IsPut};
 
 use crate::moves::{came, digest_at, give_up};
 use crate::transfer::{Ended, Phase, Reading, Transfer, Which};
-use bytes::put;
 use disk::disk::Disk;
 use message::chunk::Chunk;
+use octets::put;
 use programs::programs::Action;
 use record::code::Block;
 use store::store::Store;

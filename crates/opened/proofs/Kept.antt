@@ -1,18 +1,17 @@
 -- Which files a change of the blocks leaves: a write to a data block that is in no file, and a write to the slot that does not hold, whole or torn.
-use Rattle.std.proofs.Common.{◌≡◌, ℕ, zero, suc, ◌+◌, ◌*◌, ◌<◌, ◌≤◌, Bool, true, false, cond, not, ◌⊎◌, List, [], ◌++◌, take, is_some, Some, None, Option, sym, refl, ap, ◌∙◌, subst, inl, inr, ⊎_elim, arith}
+use Rattle.std.proofs.Common.{◌≡◌, ℕ, zero, suc, ◌+◌, ◌*◌, ◌<◌, Bool, true, false, cond, List, [], ◌++◌, take, Some, None, Option, sym, refl, ap, ◌∙◌, ⊎_elim, arith}
 use Rattle.std.specs.Option.{option_map}
-use Rattle.std.proofs.lemmas.Bool.{both_ways, cases_Bool, cases_eq, false≢true, true≢false}
+use Rattle.std.proofs.lemmas.Bool.{both_ways, cases_Bool, cases_eq, false≢true}
 use Rattle.model.specs.Files.{same}
-use Rattle.blocks.specs.Sets.{has, first}
+use Rattle.blocks.specs.Sets.{has}
 use Rattle.blocks.proofs.Member.{Found, first_found, first-nothing}
 use Rattle.record.specs.Names.{name_of}
-use Rattle.record.specs.Records.{decode}
 use Rattle.record.specs.declared.record.Record.{Record}
-use Rattle.record.proofs.Same.{same-eq, eq-same, same_refl}
+use Rattle.record.proofs.Same.{same-eq, eq-same}
 use Rattle.disk.specs.Disks.{Blocks}
-use Rattle.opened.specs.Opened.{held, other_slot, is_of, is_vacant, count_in, has_in, place, vacant, or_else, in_file, joined, content, held_at, record_of, opened, Same, Changed}
+use Rattle.opened.specs.Opened.{held, other_slot, is_of, is_vacant, has_in, place, vacant, or_else, in_file, joined, content, held_at, record_of, opened, Same, Changed}
 use Rattle.opened.proofs.First.{first_alike, first-is, any_none}
-use Rattle.opened.proofs.Slots.{But, held-is, slot-bounds, held-elsewhere, held-junk, held_new, held-old}
+use Rattle.opened.proofs.Slots.{But, held-is, slot-bounds, held-elsewhere}
 
 -- the data of a set is the same where its blocks are
 pub joined_same : (f g : Blocks) (s : List ℕ) (n : ℕ) → ((k : ℕ) → k < n → has s k ≡ true → g (128 + k) ≡ f (128 + k)) → joined g s n ≡ joined f s n

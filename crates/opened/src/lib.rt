@@ -1,4 +1,6 @@
 // Which files a disk holds: the records of its slots, and which blocks they have.
+#![tactic(auto)]
+
 ghost use Rattle.std.specs.Prelude.{◌≡◌, ℕ, ◌<◌, ◌||◌};
 ghost use Rattle.blocks.specs.Sets.{has};
 ghost use Rattle.record.specs.Names.{name_of};

@@ -1,14 +1,12 @@
 -- A block from a record, and the record back.
-use Rattle.std.proofs.Common.{◌≡◌, ℕ, ◌+◌, ◌-◌, ◌*◌, ◌/◌, ◌%◌, ◌^◌, ◌<◌, ◌≤◌, Bool, true, false, cond, ◌&&◌, eqb, leb, List, [], ◌∷◌, ◌++◌, length, get_or, take, drop, replicate, Some, None, Option, sym, refl, ap, ◌∙◌, subst, arith}
-use Rattle.std.proofs.lemmas.Bool.{and_parts, and_left, and_right, and_from, le-leb, lt-leb, cases_Bool}
+use Rattle.std.proofs.Common.{◌≡◌, ℕ, ◌+◌, ◌-◌, ◌*◌, ◌/◌, ◌%◌, ◌^◌, ◌<◌, ◌≤◌, Bool, true, false, ◌&&◌, eqb, leb, List, [], ◌∷◌, ◌++◌, length, get_or, take, drop, replicate, Some, None, sym, refl, ap, ◌∙◌, arith}
+use Rattle.std.proofs.lemmas.Bool.{and_parts, and_left, and_right, and_from, le-leb, lt-leb}
 use Rattle.std.proofs.lemmas.List.{append_assoc, append-nil, take_at, drop_at, drop-drop, drop-replicate, length-append, get_or-append_right}
 use Rattle.model.specs.Files.{same}
-use Rattle.sha256.specs.Message.{SHA256, Bytes32, Bytes64, Be32, Output, After}
-use Rattle.blocks.specs.declared.Set.{Set}
+use Rattle.sha256.specs.Message.{SHA256, Bytes32, Bytes64, Be32, Output}
 use Rattle.blocks.specs.Sets.{has, tally}
 use Rattle.record.specs.Names.{name_of, is_name}
 use Rattle.record.specs.Records.{needed, makes_sense, front, encode, guess, decode, chosen, Be64, Whole}
-use Rattle.record.specs.declared.name.Name.{Name}
 use Rattle.record.specs.declared.record.Record.{Record}
 use Rattle.record.proofs.Naming.{name-short}
 use Rattle.record.proofs.Same.{same-eq, same_refl}

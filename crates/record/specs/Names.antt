@@ -1,5 +1,5 @@
 -- Names of files: 1 to 32 small letters, digits and dots, compared as byte strings. Assumes nothing.
-use Rattle.std.specs.Prelude.{ℕ, ◌-◌, min, Bool, ◌&&◌, List, [], ◌++◌, length, take, replicate, nat_le}
+use Rattle.std.specs.Prelude.{ℕ, ◌-◌, min, Bool, ◌&&◌, List, ◌++◌, length, take, replicate, nat_le}
 use Rattle.model.specs.Keyed.{every}
 use Rattle.model.specs.Put.{is_name_byte}
 use Rattle.record.specs.declared.name.Name.{Name}

@@ -1,5 +1,5 @@
 -- A record as one block of 512 bytes: name (1 + 32), count (8), length (4), the file's blocks (256), zeros, and the SHA-256 of the first 480. Assumes nothing.
-use Rattle.std.specs.Prelude.{◌≡◌, ℕ, ◌+◌, ◌*◌, ◌/◌, ◌^◌, ◌<◌, Bool, true, cond, ◌&&◌, List, [], ◌∷◌, ◌++◌, length, take, drop, replicate, Some, None, Option, ◌==◌, nat_le, slice_index}
+use Rattle.std.specs.Prelude.{◌≡◌, ℕ, ◌+◌, ◌*◌, ◌/◌, ◌^◌, ◌<◌, Bool, true, cond, ◌&&◌, List, ◌∷◌, ◌++◌, length, take, drop, replicate, Some, None, Option, ◌==◌, nat_le, slice_index}
 use Rattle.model.specs.Files.{same}
 use Rattle.sha256.specs.Message.{SHA256, Bytes32, Bytes64, Be32}
 use Rattle.blocks.specs.Sets.{has, tally}

@@ -6,7 +6,7 @@ use crate::name::Name;
 use crate::names::is_name;
 use crate::record::Record;
 use blocks::Set;
-use bytes::{equal, put};
+use octets::{equal, put};
 use sha256::digest;
 
 // The bytes of one block of a disk.

@@ -6,7 +6,7 @@ ghost use Rattle.model.specs.Put.{is_name_byte};
 ghost use Rattle.record.specs.Names.{name_of, is_name, named};
 
 use crate::name::Name;
-use bytes::{equal, put};
+use octets::{equal, put};
 
 fn is_name_byte(b: u8) -> bool
     ensures { result ≡ is_name_byte b }

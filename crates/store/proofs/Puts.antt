@@ -1,9 +1,9 @@
 -- What the writes of a put leave, whole or torn.
-use Rattle.std.proofs.Common.{◌≡◌, ℕ, suc, ◌+◌, ◌-◌, ◌*◌, ◌^◌, ◌<◌, ◌≤◌, Bool, true, false, cond, ◌&&◌, ltb, ◌⊎◌, List, length, get_or, set, Some, None, Option, sym, refl, ap, ◌∙◌, subst, inl, inr, ⊎_elim, arith}
+use Rattle.std.proofs.Common.{◌≡◌, ℕ, suc, ◌+◌, ◌-◌, ◌*◌, ◌^◌, ◌<◌, Bool, true, false, cond, ◌&&◌, ltb, List, length, set, Some, None, Option, sym, refl, ap, ◌∙◌, subst, inl, inr, ⊎_elim, arith}
 use Rattle.std.specs.Option.{option_map}
 use Rattle.std.proofs.lemmas.List.{get_or_past, get_or-set_same, get_or-set_other}
 use Rattle.std.proofs.lemmas.Bool.{both_ways, and_parts, ltb-true, cases_lt, cases_eq, cases_Bool}
-use Rattle.blocks.specs.Sets.{has, none, first}
+use Rattle.blocks.specs.Sets.{has, first}
 use Rattle.blocks.specs.declared.Set.{Set}
 use Rattle.blocks.proofs.Member.{has-none, first_found}
 use Rattle.record.specs.Names.{name_of}
@@ -11,9 +11,8 @@ use Rattle.record.specs.Records.{decode, encode, makes_sense, Whole}
 use Rattle.record.specs.declared.name.Name.{Name}
 use Rattle.record.specs.declared.record.Record.{Record}
 use Rattle.record.proofs.Coding.{decode-encode}
-use Rattle.disk.specs.Disks.{Blocks, Torn, Wrote}
-use Rattle.opened.specs.Opened.{any, in_file, held, has_in, other_slot, count_in, place, vacant, or_else, target, target_at, joined, content, Same, Changed}
-use Rattle.opened.specs.declared.Target.{Target}
+use Rattle.disk.specs.Disks.{Blocks, Wrote}
+use Rattle.opened.specs.Opened.{held, has_in, other_slot, count_in, place, vacant, or_else, target_at, joined, content, Changed}
 use Rattle.opened.proofs.First.{any_none, none_any, any-alike}
 use Rattle.opened.proofs.Slots.{But, held-is, held-elsewhere, held-junk, held_new, held-old, slot-bounds}
 use Rattle.opened.proofs.Kept.{all_same, data-held, data-kept, joined_same, Goes, goes, slot_kept, slot-new}

@@ -1,14 +1,14 @@
 -- One place of the table changed: the blocks of puts stay with them alone.
-use Rattle.std.proofs.Common.{◌≡◌, ℕ, zero, suc, ◌+◌, ◌-◌, ◌<◌, ◌≤◌, Bool, true, false, cond, not, ◌||◌, leb, ◌⊎◌, List, [], length, get_or, set, replicate, Some, None, Option, sym, refl, ap, ◌∙◌, subst, inl, inr, ⊎_elim, arith}
-use Rattle.std.proofs.lemmas.List.{get_or-set_same, get_or-set_other, length-set, set_past, get_or-replicate, get_or_past, length-replicate}
+use Rattle.std.proofs.Common.{◌≡◌, ℕ, zero, suc, ◌+◌, ◌-◌, ◌<◌, Bool, true, false, cond, not, leb, List, set, replicate, Some, None, Option, sym, refl, ap, ◌∙◌, subst, ⊎_elim, arith}
+use Rattle.std.proofs.lemmas.List.{get_or-set_same, get_or-set_other, length-set, set_past, get_or-replicate, length-replicate}
 use Rattle.std.proofs.lemmas.Bool.{both_ways, cases_Bool, cases_eq, cases_lt, or_parts}
 use Rattle.blocks.specs.Sets.{has, first, lowest, tally, is_free}
 use Rattle.blocks.specs.declared.Set.{Set}
 use Rattle.blocks.proofs.Member.{lowest-free, lowest-alike, tally-alike, free-alike, first_found}
 use Rattle.record.specs.declared.record.Record.{Record}
 use Rattle.disk.specs.Disks.{Blocks}
-use Rattle.opened.specs.Opened.{any, in_file, held, has_in, record_of, held_at, place}
-use Rattle.opened.proofs.First.{any_none, none_any, any-alike}
+use Rattle.opened.specs.Opened.{in_file, held, has_in, record_of, held_at, place}
+use Rattle.opened.proofs.First.{any_none}
 use Rattle.opened.proofs.Kept.{place_found}
 use Rattle.store.specs.Leases.{lease, lease_has, in_lease, used, unused, free_count, Alone, Sound, put_place, put_set}
 use Rattle.store.specs.declared.lease.Lease.{Lease}

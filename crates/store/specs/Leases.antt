@@ -1,5 +1,5 @@
 -- Blocks that puts and gets under way have, and what is free. Assumes nothing.
-use Rattle.std.specs.Prelude.{◌≡◌, ℕ, ◌-◌, ◌<◌, Bool, true, false, cond, ◌||◌, List, length, Some, None, Option, ◌≢◌, nat_le, slice_index_or, slice_set}
+use Rattle.std.specs.Prelude.{◌≡◌, ℕ, ◌<◌, Bool, true, false, cond, ◌||◌, List, length, Some, None, Option, ◌≢◌, nat_le, slice_index_or, slice_set}
 use Rattle.blocks.specs.Sets.{has, first, tally, is_free, lowest}
 use Rattle.blocks.specs.declared.Set.{Set}
 use Rattle.disk.specs.Disks.{Blocks}

@@ -1,5 +1,5 @@
 -- What each call does to the store: its disk, the puts and gets under way, and which file each name has. Assumes nothing.
-use Rattle.std.specs.Prelude.{◌≡◌, ℕ, ◌+◌, ◌-◌, ◌<◌, ◌≤◌, Bool, true, false, cond, ◌&&◌, ◌⊎◌, List, Some, None, Ok, Err, Option, Result, ◌≢◌, nat_lt, slice_set}
+use Rattle.std.specs.Prelude.{◌≡◌, ℕ, ◌+◌, ◌-◌, ◌<◌, Bool, true, false, cond, ◌&&◌, ◌⊎◌, List, Some, None, Ok, Err, Option, Result, ◌≢◌, nat_lt, slice_set}
 use Rattle.blocks.specs.Sets.{has, first, none}
 use Rattle.blocks.specs.declared.Set.{Set}
 use Rattle.record.specs.Names.{name_of}
@@ -9,7 +9,7 @@ use Rattle.record.specs.declared.record.Record.{Record}
 use Rattle.disk.specs.Disks.{Blocks, Wrote}
 use Rattle.opened.specs.Opened.{target, joined, content, Same, Changed}
 use Rattle.opened.specs.declared.Target.{Target}
-use Rattle.store.specs.Leases.{lease, lease_has, Sound}
+use Rattle.store.specs.Leases.{lease, Sound}
 use Rattle.store.specs.declared.lease.Lease.{Lease}
 use Rattle.store.specs.declared.lease.Lease.TheVariants.{Nothing, Put, Get}
 use Rattle.store.specs.declared.store.Prepared.{Prepared}

@@ -1,4 +1,4 @@
-use Rattle.std.proofs.Common.{◌≡◌, ℕ, List, sym, ap, ◌∙◌}
+use Rattle.std.proofs.Common.{ap, ◌∙◌}
 use Rattle.record.specs.Records.{decode}
 use Rattle.opened.specs.Opened.{holding, held}
 use Rattle.opened.proofs.held.Goals as goal

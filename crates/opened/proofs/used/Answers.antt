@@ -13,7 +13,7 @@ loop-i-init g c b h =
 pub loop-i-preserved : goal.loop-i-preserved
 loop-i-preserved g c b h =
     let p : ℕ → Bool = λ k. has_in (held (g.D.Disk.block c.args.disk.now) k) b in
-    c.take-in.ensures b h ∙ ap (λ (v : Bool). v || has_in c.held.result b) (c.loop-i.invariant b h)
+    c.take_in.ensures b h ∙ ap (λ (v : Bool). v || has_in c.held.result b) (c.loop-i.invariant b h)
     ∙ ap (λ (o : Option Record). any p c.loop-i.i || has_in o b) c.held.ensures
     ∙ sym (any-more p c.loop-i.i)
 

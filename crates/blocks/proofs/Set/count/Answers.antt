@@ -1,5 +1,5 @@
-use Rattle.std.proofs.Common.{◌≡◌, ℕ, ◌+◌, Bool, sym, ap, ◌∙◌, arith}
-use Rattle.blocks.specs.Sets.{has, tally}
+use Rattle.std.proofs.Common.{ℕ, Bool, sym, ◌∙◌, arith}
+use Rattle.blocks.specs.Sets.{has}
 use Rattle.blocks.proofs.Member.{tally-zero, tally-yes, tally-no, tally-most}
 use Rattle.blocks.proofs.Set.count.Goals as goal
 use Rattle.blocks.proofs.Set.count.Goals.{then-has, else-has}
@@ -7,8 +7,8 @@ use Rattle.blocks.proofs.Set.count.Goals.{then-has, else-has}
 pub loop-k-init : goal.loop-k-init
 loop-k-init c = sym (tally-zero _)
 
-pub overflow-add-n : goal.overflow-add-n
-overflow-add-n c = omega (arith, tally-most (has c.args.self.now.bits) c.loop-k.k)
+pub overflow_add-n : goal.overflow_add-n
+overflow_add-n c = omega (arith, tally-most (has c.args.self.now.bits) c.loop-k.k)
 
 pub loop-k-preserved : goal.loop-k-preserved
 loop-k-preserved c =

@@ -1,4 +1,4 @@
-use Rattle.std.proofs.Common.{◌≡◌, ℕ, ◌/◌, ◌%◌, List, get_or, set, ap, arith}
+use Rattle.std.proofs.Common.{ℕ, ◌/◌, ◌%◌, List, get_or, set, ap, arith}
 use lib.Bits.{bit_or}
 use Rattle.std.proofs.lemmas.Nat.{one_shl}
 use Rattle.blocks.specs.Sets.{with}

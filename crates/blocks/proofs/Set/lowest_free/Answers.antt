@@ -1,4 +1,4 @@
-use Rattle.std.proofs.Common.{◌≡◌, ℕ, ◌+◌, ◌<◌, ◌≤◌, Bool, true, cond, not, leb, List, Some, None, Option, sym, ap, ◌∙◌, arith}
+use Rattle.std.proofs.Common.{◌≡◌, ℕ, ◌+◌, ◌<◌, ◌≤◌, Bool, cond, not, leb, List, Some, None, Option, sym, ap, ◌∙◌, arith}
 use Rattle.std.proofs.lemmas.Bool.{le-leb, lt-leb}
 use Rattle.blocks.specs.declared.Set.{Set}
 use Rattle.blocks.specs.Sets.{has, with, tally, is_free, lowest}
@@ -12,8 +12,8 @@ loop-k-init c = (
   c.empty-taken.ensures ∙ sym (lowest-zero (has c.args.self.now.bits) c.args.many),
 )
 
-pub overflow-add-free : goal.overflow-add-free
-overflow-add-free c = omega (arith, c.loop-k.invariant.0, tally-most (is_free (has c.args.self.now.bits)) c.loop-k.k)
+pub overflow_add-free : goal.overflow_add-free
+overflow_add-free c = omega (arith, c.loop-k.invariant.0, tally-most (is_free (has c.args.self.now.bits)) c.loop-k.k)
 
 pub loop-k-preserved : goal.loop-k-preserved
 loop-k-preserved c =

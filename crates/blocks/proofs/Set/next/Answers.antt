@@ -1,4 +1,4 @@
-use Rattle.std.proofs.Common.{◌≡◌, ℕ, Bool, sym, ap, ◌∙◌, arith}
+use Rattle.std.proofs.Common.{ℕ, Bool, sym, ◌∙◌}
 use Rattle.blocks.specs.Sets.{has}
 use Rattle.blocks.proofs.Member.{first-yes, first-no, first-none}
 use Rattle.blocks.proofs.Set.next.Goals as goal

@@ -46,7 +46,7 @@ loop-k-preserved g c =
     elim c.if-has.branch [
       | then-has w ↦
           let ej = joined-yes f s k (sym c.has.ensures ∙ w.if-has.true) in
-          let t = w.take-in-left.ensures in (
+          let t = w.take_in-left.ensures in (
             w.left-is ∙ t.left ∙ took-left f s c.args.size k w.read.result c.loop-k.left c.loop-k.hash c.if-has.hash (omega arith) c.loop-k.invariant.0 w.read.ensures t.long ej,
             subst (λ (x : Sha256). Holds x (take c.args.size (joined f s (k + 1)))) (sym w.hash-is)
                 (took-hash f s c.args.size k w.read.result c.loop-k.left c.loop-k.hash _ (omega arith) c.loop-k.invariant.0 w.read.ensures t.long ej c.loop-k.invariant.1 t.hash),

@@ -1,4 +1,4 @@
-use Rattle.std.proofs.Common.{◌≡◌, ◌-◌, ◌^◌, ◌<◌, length, take}
+use Rattle.std.proofs.Common.{◌≡◌, ◌-◌, length, take}
 use Rattle.sha256.specs.Stream.{Holds}
 use Rattle.opened.specs.Opened.{joined}
 use Rattle.files.proofs.digests.digest_of.Given as goal

@@ -1,4 +1,4 @@
-use Rattle.std.proofs.Common.{◌≡◌, ℕ, ◌+◌, ◌<◌, Bool, true, false, cond, ltb, List, length, sym, refl, ap, ◌∙◌, arith}
+use Rattle.std.proofs.Common.{◌≡◌, ℕ, ◌+◌, ◌<◌, Bool, true, false, cond, ltb, List, length, sym, ap, ◌∙◌, arith}
 use Rattle.std.proofs.lemmas.Bool.{lt-ltb}
 use Rattle.disk.specs.Disks.{Blocks}
 use Rattle.store.specs.declared.store.Store.{Store}
@@ -20,16 +20,16 @@ module _ {D : Type 0} (block : D → Blocks) (up : D → Bool) (wrote : D → �
 pub returns-then-eof : goal.returns-then-eof
 returns-then-eof g c =
     let e = ended g.D.Disk.block g.D.Disk.up g.D.Disk.wrote c.args.store.now c.args.t c.args.read.now c.args.eof c.if-eof.true in
-    record { state = c.end-early.ensures.state ∙ (λ i. (e i).state); store = c.end-early.ensures.store ∙ (λ i. (e i).store) }
+    record { state = c.end_early.ensures.state ∙ (λ i. (e i).state); store = c.end_early.ensures.store ∙ (λ i. (e i).store) }
 
 pub returns-then-want-t : goal.returns-then-want-t
 returns-then-want-t g c =
     let h : wanted c.args.t.phase < c.args.t.count + length c.args.read.now = omega (arith, c.wanted-want.ensures, c.if-want-t.true) in
     let e = too_much g.D.Disk.block g.D.Disk.up g.D.Disk.wrote c.args.store.now c.args.t c.args.read.now c.args.eof c.if-eof.false h in
-    record { state = c.end-early-then-want-t.ensures.state ∙ (λ i. (e i).state); store = c.end-early-then-want-t.ensures.store ∙ (λ i. (e i).store) }
+    record { state = c.end_early-then-want-t.ensures.state ∙ (λ i. (e i).state); store = c.end_early-then-want-t.ensures.store ∙ (λ i. (e i).store) }
 
 pub returns-then-want-t-2 : goal.returns-then-want-t-2
 returns-then-want-t-2 g c =
     let h : wanted c.args.t.phase < c.args.t.count + length c.args.read.now = omega (arith, c.wanted-want.ensures, c.if-want-t.false, c.if-want-t-2.true) in
     let e = too_much g.D.Disk.block g.D.Disk.up g.D.Disk.wrote c.args.store.now c.args.t c.args.read.now c.args.eof c.if-eof.false h in
-    record { state = c.end-early-then-want-t-2.ensures.state ∙ (λ i. (e i).state); store = c.end-early-then-want-t-2.ensures.store ∙ (λ i. (e i).store) }
+    record { state = c.end_early-then-want-t-2.ensures.state ∙ (λ i. (e i).state); store = c.end_early-then-want-t-2.ensures.store ∙ (λ i. (e i).store) }

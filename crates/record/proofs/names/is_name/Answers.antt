@@ -9,4 +9,4 @@ pub returns-then-bytes-gt32 : goal.returns-then-bytes-gt32
 returns-then-bytes-gt32 c = sym (name-long c.args.bytes.now c.if-bytes-gt32.true)
 
 pub returns : goal.returns
-returns c = c.all-name-bytes.ensures ∙ sym (name-is c.args.bytes.now c.if-bytes-lt1.false c.if-bytes-gt32.false)
+returns c = c.all_name_bytes.ensures ∙ sym (name-is c.args.bytes.now c.if-bytes-lt1.false c.if-bytes-gt32.false)

@@ -13,7 +13,7 @@ loop-t-init c b h =
 pub loop-t-preserved : goal.loop-t-preserved
 loop-t-preserved c b h =
     let p : ℕ → Bool = λ k. lease_has (lease c.args.leases.now k) b in
-    c.take-in.ensures b h ∙ ap (λ (v : Bool). v || p c.loop-t.t) (c.loop-t.invariant b h) ∙ sym (any-more p c.loop-t.t)
+    c.take_in.ensures b h ∙ ap (λ (v : Bool). v || p c.loop-t.t) (c.loop-t.invariant b h) ∙ sym (any-more p c.loop-t.t)
 
 pub returns : goal.returns
 returns c b h =

@@ -1,4 +1,4 @@
-use Rattle.std.proofs.Common.{◌≡◌, ℕ, Bool, sym, refl, ap, ◌∙◌, subst, arith}
+use Rattle.std.proofs.Common.{◌≡◌, Bool, sym, refl, ap, ◌∙◌, subst, arith}
 use Rattle.std.proofs.lemmas.Bool.{both_ways}
 use Rattle.disk.specs.Disks.{Wrote}
 use Rattle.disk.specs.Failures.{torn}
@@ -18,11 +18,11 @@ returns-then-not-self g c =
 
 pub returns-then-self-gt0 : goal.returns-then-self-gt0
 returns-then-self-gt0 g c =
-    let a : c.is-ok-self.result ≡ g.D.Disk.up c.write-r.new.self = c.is-ok-self.ensures.value ∙ c.write-r.ensures.answer in
+    let a : c.is_ok-self.result ≡ g.D.Disk.up c.write-r.new.self = c.is_ok-self.ensures.value ∙ c.write-r.ensures.answer in
     record {
-      after = f-more g.D.Disk.up g.D.Disk.wrote c.args.self.now c.args.b c.args.bytes.now c.write-r.new.self c.is-ok-self.result
+      after = f-more g.D.Disk.up g.D.Disk.wrote c.args.self.now c.args.b c.args.bytes.now c.write-r.new.self c.is_ok-self.result
           c.if-not-self.false c.if-self-gt0.true c.write-r.ensures.after a;
-      answer = sym c.is-ok-self.ensures.value;
+      answer = sym c.is_ok-self.ensures.value;
       blocks = subst (λ (v : Bool). Wrote (g.D.Disk.block c.args.self.now.disk) c.args.b c.args.bytes.now v (g.D.Disk.block c.write-r.new.self)) (sym a) c.write-r.ensures.blocks;
       down = λ e. absurd (both_ways _ e c.if-not-self.false);
     }

@@ -1,4 +1,4 @@
-use Rattle.std.proofs.Common.{◌≡◌, ℕ, ◌<◌, ◌≤◌, replicate, vec_items, vec_len, sym, refl, ap, ◌∙◌, arith}
+use Rattle.std.proofs.Common.{◌<◌, ◌≤◌, replicate, vec_items, vec_len, sym, refl, arith}
 use Rattle.std.proofs.lemmas.Bool.{both_ways}
 use Rattle.disk.specs.Memories.{memory_block}
 use Rattle.disk.proofs.Kept.{down-stays, past_end, within, none_written, set-wrote}

@@ -1,14 +1,14 @@
-use Rattle.std.proofs.Common.{◌≡◌, ℕ, Bool, List, Some, None, sym, ap, ◌∙◌}
+use Rattle.std.proofs.Common.{ℕ, List, Some, sym, ap, ◌∙◌}
 use Rattle.model.specs.Files.{same}
-use Rattle.record.specs.Records.{makes_sense, encode, guess}
+use Rattle.record.specs.Records.{makes_sense, encode}
 use Rattle.record.specs.declared.record.Record.{Record}
 use Rattle.record.proofs.Same.{decided}
 use Rattle.record.proofs.Coding.{senseless, misfit, fitting}
 use Rattle.record.proofs.record.Record.decode.Goals as goal
 
-pub returns-then-not-makes-sense : goal.returns-then-not-makes-sense
-returns-then-not-makes-sense c =
-    sym (senseless c.args.y.now (ap makes_sense (sym c.guess-r.ensures) ∙ sym c.makes-sense.ensures ∙ c.if-not-makes-sense.true))
+pub returns-then-not-makes_sense : goal.returns-then-not-makes_sense
+returns-then-not-makes_sense c =
+    sym (senseless c.args.y.now (ap makes_sense (sym c.guess-r.ensures) ∙ sym c.makes_sense.ensures ∙ c.if-not-makes_sense.true))
 
 pub returns-then-not-equal : goal.returns-then-not-equal
 returns-then-not-equal c =
@@ -19,6 +19,6 @@ returns-then-not-equal c =
 pub returns : goal.returns
 returns c =
     ap (λ (r : Record). Some r) c.guess-r.ensures
-    ∙ sym (fitting c.args.y.now (ap makes_sense (sym c.guess-r.ensures) ∙ sym c.makes-sense.ensures ∙ c.if-not-makes-sense.false) (
+    ∙ sym (fitting c.args.y.now (ap makes_sense (sym c.guess-r.ensures) ∙ sym c.makes_sense.ensures ∙ c.if-not-makes_sense.false) (
     ap (λ (r : Record). same (encode r) c.args.y.now) (sym c.guess-r.ensures) ∙ ap (λ (v : List ℕ). same v c.args.y.now) (sym c.encode.ensures.bytes)
     ∙ sym (decided c.equal.result c.encode.result c.args.y.now c.equal.ensures.same c.equal.ensures.differs) ∙ c.if-not-equal.false))

@@ -1,4 +1,4 @@
-use Rattle.std.proofs.Common.{◌≡◌, ℕ, ◌+◌, List, ◌++◌, length, take, drop, sym, ap, ◌∙◌, arith}
+use Rattle.std.proofs.Common.{ℕ, ◌+◌, List, ◌++◌, length, take, drop, ap, ◌∙◌, arith}
 use Rattle.record.proofs.Coding.{encode-is}
 use Rattle.record.proofs.record.Record.encode.Goals as goal
 
@@ -13,8 +13,8 @@ returns c =
           (omega arith)
           c.put.ensures
           c.put-2.ensures
-          (c.put-3.ensures ∙ ap (part 33 c.put-2.new.out) c.to-be-bytes.ensures)
-          (c.put-4.ensures ∙ ap (part 41 c.put-3.new.out) c.to-be-bytes-2.ensures)
+          (c.put-3.ensures ∙ ap (part 33 c.put-2.new.out) c.to_be_bytes.ensures)
+          (c.put-4.ensures ∙ ap (part 41 c.put-3.new.out) c.to_be_bytes-2.ensures)
           c.put-5.ensures
           c.digest-checksum.ensures
           c.put-6.ensures;

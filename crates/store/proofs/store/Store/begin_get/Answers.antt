@@ -1,4 +1,4 @@
-use Rattle.std.proofs.Common.{◌≡◌, ℕ, List, Some, sym, refl, ap, ◌∙◌}
+use Rattle.std.proofs.Common.{◌≡◌, ℕ, List, Some, sym, refl}
 use Rattle.record.specs.Names.{name_of}
 use Rattle.record.specs.declared.record.Record.{Record}
 use Rattle.disk.specs.Disks.{Blocks}
@@ -14,13 +14,13 @@ returns g c =
     let f : Blocks = g.D.Disk.block c.args.self.now.disk in
     let ls : List Lease = c.args.self.now.leases in
     let r : Record = c.in-Some.r in
-    let t : ℕ = c.in-Some-find-unused.t in
+    let t : ℕ = c.in-Some-find_unused.t in
     let er : Some r ≡ record_of f (name_of c.args.name.now) = c.in-Some.ensures in
-    let et : Some t ≡ unused ls = c.in-Some-find-unused.ensures.place in
+    let et : Some t ≡ unused ls = c.in-Some-find_unused.ensures.place in
     let h = record-held f (name_of c.args.name.now) r (sym er) in
     record {
       answer = λ i. get_answer (er i) (et i);
       disk = refl;
       leases = λ i. get_leases ls (er i) (et i);
-      sound = λ ok. sound-get f ls t h.pair r ok c.in-Some-find-unused.ensures.within h.below h.holds;
+      sound = λ ok. sound-get f ls t h.pair r ok c.in-Some-find_unused.ensures.within h.below h.holds;
     }

@@ -1,13 +1,11 @@
-use Rattle.std.proofs.Common.{◌≡◌, ℕ, ◌^◌, ◌<◌, Bool, true, false, List, set, Some, Option, sym, refl, ap, ◌∙◌, subst, arith}
+use Rattle.std.proofs.Common.{◌≡◌, ℕ, Bool, true, false, List, Some, Option, sym, refl, ap, ◌∙◌, subst, arith}
 use Rattle.std.proofs.lemmas.Bool.{false≢true}
 use Rattle.record.specs.Names.{name_of}
 use Rattle.record.specs.Records.{encode}
 use Rattle.disk.specs.Disks.{Blocks, Wrote}
-use Rattle.opened.specs.Opened.{joined}
 use Rattle.store.specs.Leases.{lease, Sound}
 use Rattle.store.specs.Stores.{prepared, commit_answer, commit_disk, commit_leases, Outcome}
 use Rattle.store.specs.declared.lease.Lease.{Lease}
-use Rattle.store.specs.declared.lease.Lease.TheVariants.{Nothing}
 use Rattle.store.specs.declared.store.Prepared.{Prepared}
 use Rattle.store.proofs.Puts.{ready, outcome, commit-sound, commit-data, whole-entry}
 use Rattle.store.proofs.store.Store.commit.Goals as goal

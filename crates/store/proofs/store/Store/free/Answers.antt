@@ -1,11 +1,11 @@
-use Rattle.std.proofs.Common.{◌≡◌, ℕ, ◌≤◌, sym, ap, ◌∙◌, arith}
+use Rattle.std.proofs.Common.{◌≡◌, arith}
 use Rattle.blocks.specs.Sets.{has, tally}
 use Rattle.blocks.proofs.Member.{tally-alike, tally-most}
 use Rattle.store.specs.Leases.{used}
 use Rattle.store.proofs.store.Store.free.Goals as goal
 
-pub overflow-sub-result : goal.overflow-sub-result
-overflow-sub-result g c = omega (arith, c.count.ensures, tally-most (has c.used.result.bits) 2048)
+pub overflow_sub-result : goal.overflow_sub-result
+overflow_sub-result g c = omega (arith, c.count.ensures, tally-most (has c.used.result.bits) 2048)
 
 pub returns : goal.returns
 returns g c =

@@ -1,16 +1,16 @@
-use Rattle.std.proofs.Common.{◌≡◌, ℕ, ◌+◌, ◌-◌, ◌<◌, Some, Option, sym, ap, ◌∙◌, arith}
-use Rattle.blocks.specs.Sets.{has, first}
+use Rattle.std.proofs.Common.{◌≡◌, ℕ, ◌+◌, ◌<◌, Some, sym, ap, ◌∙◌, arith}
+use Rattle.blocks.specs.Sets.{has}
 use Rattle.disk.specs.Disks.{Blocks}
 use Rattle.store.specs.Stores.{piece_at, get_next}
 use Rattle.store.specs.declared.lease.Lease.{Lease}
 use Rattle.store.proofs.Tables.{next-below}
 use Rattle.store.proofs.store.Store.read.Goals as goal
 
-pub overflow-add-result : goal.overflow-add-result
-overflow-add-result g c = let h : c.in-Some.b < 2048 = next-below (has c.in-Get.s.bits) c.args.from c.in-Some.b (sym c.in-Some.ensures) in omega arith
+pub overflow_add-result : goal.overflow_add-result
+overflow_add-result g c = let h : c.in-Some.b < 2048 = next-below (has c.in-Get.s.bits) c.args.from c.in-Some.b (sym c.in-Some.ensures) in omega arith
 
-pub overflow-add-b : goal.overflow-add-b
-overflow-add-b g c = let h : c.in-Some.b < 2048 = next-below (has c.in-Get.s.bits) c.args.from c.in-Some.b (sym c.in-Some.ensures) in omega arith
+pub overflow_add-b : goal.overflow_add-b
+overflow_add-b g c = let h : c.in-Some.b < 2048 = next-below (has c.in-Get.s.bits) c.args.from c.in-Some.b (sym c.in-Some.ensures) in omega arith
 
 pub returns : goal.returns
 returns g c =
