@@ -1,4 +1,6 @@
 // Twenty sealed messages, one to a line, to compare with another implementation's.
+#![tactic(auto)]
+
 use message::chunk::Chunk;
 use message::to_client::{Reply, ToClient};
 use message::to_server::{Request, ToServer};

@@ -1,6 +1,6 @@
 -- Tags under way.
-use Rattle.std.proofs.Common.{◌≡◌, ℕ, suc, ◌+◌, ◌/◌, ◌^◌, ◌<◌, ◌≤◌, List, [], ◌∷◌, ◌++◌, length, take, drop, replicate, Some, None, Ok, Err, Result, sym, refl, ap, ◌∙◌, subst, arith, MatchResult}
-use Rattle.std.proofs.lemmas.List.{append_assoc, append-nil, drop_all, length-append, length-replicate, take_at, drop_at, drop-drop, length-drop}
+use Rattle.std.proofs.Common.{◌≡◌, ℕ, suc, ◌+◌, ◌^◌, ◌<◌, ◌≤◌, List, [], ◌∷◌, ◌++◌, length, take, drop, replicate, Some, Ok, Err, Result, ap, ◌∙◌, subst, arith, MatchResult}
+use Rattle.std.proofs.lemmas.List.{append_assoc, append-nil, drop_all, length-append, length-replicate, take_at, length-drop}
 use Rattle.sha256.specs.declared.stream.Error.{Error}
 use Rattle.chacha20.specs.Cipher.{Blocks, ChaCha20}
 use Rattle.chacha20.specs.declared.cipher.Error as cipher

@@ -1,5 +1,5 @@
 -- What was sealed is opened.
-use Rattle.std.proofs.Common.{◌≡◌, ℕ, suc, ◌+◌, ◌-◌, ◌*◌, ◌/◌, ◌%◌, ◌^◌, ◌<◌, ◌≤◌, List, [], ◌∷◌, ◌++◌, map, length, get_or, take, drop, sym, refl, ap, ◌∙◌, subst, arith}
+use Rattle.std.proofs.Common.{◌≡◌, ℕ, ◌+◌, ◌-◌, ◌*◌, ◌/◌, ◌%◌, ◌<◌, ◌≤◌, List, ◌∷◌, map, length, get_or, sym, refl, ap, ◌∙◌, subst, arith}
 use lib.Bits.{bit_xor, xor_assoc, xor_self, xor_zero_r}
 use Rattle.std.specs.List.{range_with_len}
 use Rattle.std.proofs.lemmas.List.FromFn.{get_or-map-range_with_len, length-map-range_with_len}
@@ -7,7 +7,7 @@ use Rattle.std.proofs.lemmas.List.{drop_at, ext_get_or, length-append, length-ta
 use Rattle.chacha20.specs.Cipher.{ChaCha20, Stream}
 use Rattle.hmac.specs.Hmac.{HMAC}
 use Rattle.sha256.specs.Message.{Bytes64, Output, SHA256}
-use Rattle.seal.specs.Frames.{Secret, Whole, Fits, body, body_of, bytes16, frame, largest, opened, size_at, tag, tag_of, tag_text, text_of, turned, way_key}
+use Rattle.seal.specs.Frames.{Secret, body, frame, largest, tag, tag_text, turned, way_key}
 use Rattle.seal.specs.Laws.{OpensSealed}
 use Rattle.seal.proofs.Sealing.{length-turned}
 

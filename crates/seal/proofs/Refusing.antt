@@ -1,5 +1,5 @@
 -- A message that is not written is not sent, and leaves all as it was.
-use Rattle.std.proofs.Common.{◌≡◌, ℕ, ◌+◌, ◌-◌, ◌<◌, ◌≤◌, List, ◌++◌, length, take, drop, Err, sym, refl, subst, arith}
+use Rattle.std.proofs.Common.{◌≡◌, ℕ, ◌-◌, ◌<◌, ◌≤◌, List, ◌++◌, length, take, drop, Err, sym, refl, subst, arith}
 use Rattle.wire.specs.Writes.{Wrote}
 use Rattle.wire.specs.declared.unwritten.Unwritten.{Unwritten}
 use Rattle.wire.specs.declared.unwritten.Unwritten.TheVariants.{Unsendable, NoRoom}

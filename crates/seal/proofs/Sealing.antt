@@ -1,5 +1,5 @@
 -- A message sealed and opened in place.
-use Rattle.std.proofs.Common.{◌≡◌, ℕ, suc, ◌+◌, ◌-◌, ◌*◌, ◌/◌, ◌%◌, ◌^◌, ◌<◌, ◌≤◌, List, [], ◌∷◌, ◌++◌, length, get_or, take, drop, Some, None, Option, sym, refl, ap, ◌∙◌, subst, arith}
+use Rattle.std.proofs.Common.{◌≡◌, ℕ, ◌+◌, ◌-◌, ◌≤◌, List, ◌∷◌, ◌++◌, length, get_or, take, drop, Some, sym, ap, ◌∙◌, subst, arith}
 use Rattle.std.proofs.lemmas.List.FromFn.{length-map-range_with_len}
 use Rattle.std.proofs.lemmas.List.{append_assoc, drop-append-le, drop_at, drop-drop, length-append, length-drop, length-take-le, take-append-drop, take_at}
 use lib.Bits.{bit_xor}
@@ -7,7 +7,7 @@ use Rattle.chacha20.specs.Cipher.{ChaCha20, Stream}
 use Rattle.hmac.specs.Hmac.{HMAC}
 use Rattle.sha256.specs.Message.{Bytes64}
 use Rattle.hmac.specs.Calls.{Takes}
-use Rattle.seal.specs.Frames.{Secret, body, body_of, bytes16, frame, opened, tag, tag_mark, tag_of, tag_text, text_of, turned, way_key}
+use Rattle.seal.specs.Frames.{Secret, body, body_of, bytes16, frame, opened, tag, tag_mark, tag_text, turned, way_key}
 use Rattle.seal.specs.Ways.{Stands, next_of}
 use Rattle.seal.specs.declared.way.Way.{Way}
 

@@ -1,4 +1,6 @@
 // Messages sealed and opened: encrypted, numbered and tagged.
+#![tactic(auto)]
+
 mod tags;
 pub mod theorems;
 pub mod unsealed;

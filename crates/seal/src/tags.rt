@@ -2,8 +2,8 @@
 ghost use Rattle.std.specs.Prelude.{◌≡◌, ℕ, ◌+◌, ◌^◌, ◌<◌, List, ◌∷◌, ◌++◌, length};
 ghost use Rattle.hmac.specs.Calls.{Prepared, Takes};
 
-use bytes::put;
 use hmac::{Key, Mac};
+use octets::put;
 
 // A key that is known to be short.
 pub fn prepared(key: &[u8; 32]) -> Key

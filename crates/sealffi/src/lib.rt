@@ -1,4 +1,6 @@
 // Sealing and opening as a benchmark in C calls it.
+#![tactic(auto)]
+
 use seal::way::{Direction, Way};
 
 // Seals and opens the `size` bytes behind the first two of a buffer, so many times; answers how often both went well.

@@ -1,14 +1,14 @@
 -- A stream read byte by byte, and in pieces.
-use Rattle.std.proofs.Common.{◌≡◌, ℕ, ◌+◌, ◌-◌, ◌*◌, ◌^◌, ◌<◌, ◌≤◌, Bool, true, false, cond, eqb, ltb, leb, ◌⊎◌, List, [], ◌∷◌, ◌++◌, length, get_or, take, drop, Some, None, Option, sym, refl, ap, ◌∙◌, subst, inl, inr, arith, ltb-true, le-ltb, lt-ltb, eq-eqb, eqb-true, le-leb}
+use Rattle.std.proofs.Common.{◌≡◌, ℕ, ◌+◌, ◌-◌, ◌^◌, ◌<◌, ◌≤◌, Bool, true, false, cond, eqb, ltb, leb, ◌⊎◌, List, [], ◌∷◌, ◌++◌, length, get_or, take, Some, None, Option, sym, refl, ap, ◌∙◌, subst, inl, inr, arith, ltb-true, le-ltb, lt-ltb, eq-eqb, eqb-true, le-leb}
 use borrow.Author.Tests.{both_ways, lt-leb}
-use Rattle.std.proofs.lemmas.List.{append_assoc, append-nil, take-append-drop, take_more}
+use Rattle.std.proofs.lemmas.List.{append_assoc, append-nil, take_more}
 use Rattle.std.proofs.lemmas.Bool.{cases_Bool, cases_lt}
 use Rattle.wire.specs.declared.fault.Fault.{Fault}
 use Rattle.wire.specs.declared.fault.Fault.TheVariants.{Length, Tag, Malformed}
 use Rattle.seal.specs.Frames.{Secret, Fits, Whole, body_of, largest, opened, size_at, tag, tag_of}
 use Rattle.stream.specs.Streams.{Got, arrived, fails, feed, got, is_long, is_right, is_whole, read, same, step, whole}
 use Rattle.stream.specs.Readers.{Short}
-use Rattle.stream.proofs.Gathering.{few, short-front}
+use Rattle.stream.proofs.Gathering.{short-front}
 
 -- two lists of bytes
 pub same_true : (xs ys : List ℕ) → same xs ys ≡ true → xs ≡ ys

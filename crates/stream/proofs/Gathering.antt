@@ -1,8 +1,8 @@
 -- A message gathered in two parts: its length, then the rest.
-use Rattle.std.proofs.Common.{◌≡◌, ℕ, ◌+◌, ◌-◌, ◌*◌, ◌<◌, ◌≤◌, min, ◌⊎◌, List, [], ◌∷◌, ◌++◌, length, get_or, take, drop, sym, refl, ap, ◌∙◌, subst, inl, inr, arith, take-add}
+use Rattle.std.proofs.Common.{◌≡◌, ℕ, ◌+◌, ◌-◌, ◌*◌, ◌<◌, ◌≤◌, min, ◌⊎◌, List, ◌++◌, length, take, drop, sym, refl, ap, ◌∙◌, inl, inr, arith, take-add}
 use Rattle.std.proofs.lemmas.List.{append_assoc, get_or_append_left, length-append, length-drop, length-take-le, take_all}
 use Rattle.std.proofs.lemmas.Bool.{cases_lt}
-use Rattle.seal.specs.Frames.{Whole, largest, size_at}
+use Rattle.seal.specs.Frames.{largest, size_at}
 use Rattle.stream.specs.Readers.{Gathers, Short}
 use Rattle.stream.specs.declared.gathered.Gathered.TheVariants.{More, Frame, Long}
 

@@ -1,5 +1,5 @@
 -- What is taken is a prefix of what was sent, or a forged message is at hand.
-use Rattle.std.proofs.Common.{◌≡◌, ℕ, suc, ◌+◌, ◌-◌, ◌*◌, ◌^◌, ◌<◌, ◌≤◌, Bool, true, false, cond, ltb, leb, ◌⊎◌, List, [], ◌∷◌, ◌++◌, length, get_or, take, drop, Some, None, Option, sym, refl, ap, ◌∙◌, subst, inl, inr, arith, ltb-false, le-ltb, lt-ltb, leb-false, leb-true}
+use Rattle.std.proofs.Common.{◌≡◌, ℕ, suc, ◌+◌, ◌<◌, ◌≤◌, Bool, true, false, cond, ltb, leb, ◌⊎◌, List, [], ◌∷◌, ◌++◌, length, drop, Some, None, Option, sym, refl, ap, ◌∙◌, subst, inl, inr, arith, ltb-false, le-ltb, lt-ltb, leb-false, leb-true}
 use borrow.Author.Tests.{both_ways}
 use Rattle.std.proofs.lemmas.List.{append_assoc, append-nil, drop_at, length-append, length_push}
 use Rattle.std.proofs.lemmas.Bool.{cases_lt}
@@ -7,7 +7,7 @@ use Rattle.wire.specs.declared.fault.Fault.{Fault}
 use Rattle.wire.specs.declared.fault.Fault.TheVariants.{Length, Tag, Malformed}
 use Rattle.seal.specs.Frames.{Secret, Fits, Whole as IsWhole, frame, largest, opened, size_at}
 use Rattle.seal.proofs.Opened.{length-frame, opens-sealed}
-use Rattle.stream.specs.Streams.{Got, arrived, fails, feed, got, is_long, is_right, is_whole, read, same, start, step, step_in, whole}
+use Rattle.stream.specs.Streams.{Got, feed, got, is_long, is_right, is_whole, read, same, start, step, step_in, whole}
 use Rattle.stream.specs.Readers.{Short}
 use Rattle.stream.specs.Promises.{Forged, Genuine, Prefix}
 use Rattle.stream.proofs.Gathering.{few, size-append}

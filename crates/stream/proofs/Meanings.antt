@@ -1,7 +1,6 @@
 -- The promise of insides as one of messages.
 use Rattle.std.proofs.Common.{◌≡◌, ℕ, Bool, ◌⊎◌, List, [], ◌∷◌, ◌++◌, map, sym, refl, ap, ◌∙◌, inl, inr}
 use Rattle.std.proofs.lemmas.List.{map-append}
-use Rattle.model.specs.Messages.{ToClient, ToServer}
 use Rattle.wire.specs.Inside.{GoodToClient, GoodToServer, known_to_client, known_to_server, to_client_by, to_client_bytes, to_server_by, to_server_bytes}
 use Rattle.wire.specs.Back.{to-client-back, to-server-back}
 use Rattle.seal.specs.Frames.{Secret}

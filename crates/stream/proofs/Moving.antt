@@ -1,16 +1,16 @@
 -- A message of another place.
-use Rattle.std.proofs.Common.{◌≡◌, ℕ, suc, ◌+◌, ◌-◌, ◌*◌, ◌/◌, ◌%◌, ◌^◌, ◌<◌, ◌≤◌, Bool, true, false, ◌⊎◌, List, [], ◌∷◌, ◌++◌, length, get_or, take, drop, Some, None, sym, refl, ap, ◌∙◌, subst, inl, inr, arith}
+use Rattle.std.proofs.Common.{◌≡◌, ℕ, ◌+◌, ◌/◌, ◌%◌, ◌^◌, ◌<◌, Bool, true, false, ◌⊎◌, List, [], ◌∷◌, ◌++◌, length, get_or, take, drop, Some, sym, refl, ap, ◌∙◌, inl, inr, arith}
 use borrow.Author.Tests.{both_ways}
 use Rattle.std.proofs.lemmas.List.{drop_at, length-append, take_at}
 use Rattle.wire.specs.declared.fault.Fault.TheVariants.{Tag}
 use Rattle.hmac.specs.Hmac.{HMAC}
 use Rattle.sha256.specs.Message.{Bytes64}
-use Rattle.seal.specs.Frames.{Secret, body, frame, largest, tag, tag_mark, tag_text}
+use Rattle.seal.specs.Frames.{Secret, body, frame, tag, tag_mark, tag_text}
 use Rattle.seal.specs.declared.way.Direction.{Direction}
 use Rattle.seal.specs.declared.way.Direction.TheVariants.{There, Back}
-use Rattle.seal.proofs.Opened.{length-frame, length-tag}
+use Rattle.seal.proofs.Opened.{length-tag}
 use Rattle.stream.specs.Streams.{feed, got, same, start}
-use Rattle.stream.specs.Promises.{Collision, Forged, Messages, Moved, Place, SamePlace, sealed_from}
+use Rattle.stream.specs.Promises.{Collision, Forged, Moved, Place, SamePlace, sealed_from}
 use Rattle.stream.proofs.Feeds.{same_refl, same_true}
 use Rattle.stream.proofs.Undamages.{misplaced, whole_of}
 

@@ -1,15 +1,15 @@
 -- What a receiver makes of a piece.
-use Rattle.std.proofs.Common.{◌≡◌, ℕ, ◌+◌, ◌-◌, ◌*◌, ◌^◌, ◌<◌, ◌≤◌, Bool, true, false, cond, ◌⊎◌, List, [], ◌∷◌, ◌++◌, length, get_or, take, drop, Some, None, Ok, Err, Option, Result, sym, refl, ap, ◌∙◌, subst, inl, inr, arith, MatchResult}
-use Rattle.std.proofs.lemmas.List.{append_assoc, drop_at, length-append, length-drop, length-take-le, take-append-drop, take_at}
+use Rattle.std.proofs.Common.{◌≡◌, ℕ, ◌+◌, ◌-◌, ◌<◌, ◌≤◌, Bool, true, false, List, [], ◌∷◌, ◌++◌, length, take, drop, Some, None, Ok, Err, Result, sym, ap, ◌∙◌, subst, arith, MatchResult}
+use Rattle.std.proofs.lemmas.List.{drop_at, length-append, length-drop, length-take-le, take-append-drop, take_at}
 use Rattle.wire.specs.declared.fault.Fault as fault
 use Rattle.wire.specs.declared.fault.Fault.TheVariants.{Length, Tag, Malformed}
-use Rattle.seal.specs.Frames.{Secret, Fits, Whole, largest, opened, size_at, text_of}
+use Rattle.seal.specs.Frames.{Secret, Whole, opened, text_of}
 use Rattle.seal.specs.Ways.{Opens, Stands}
 use Rattle.seal.specs.declared.way.Way.{Way}
 use Rattle.seal.proofs.Sealing.{length-turned}
 use Rattle.stream.specs.Streams.{Got, arrived, feed, got, whole}
 use Rattle.stream.specs.Readers.{Gathers, Short, held_of}
-use Rattle.stream.specs.Receivers.{Is, Reached, Takes, Up}
+use Rattle.stream.specs.Receivers.{Is, Reached, Takes}
 use Rattle.stream.specs.declared.gathered.Gathered.TheVariants.{More, Frame, Long}
 use Rattle.stream.specs.declared.receiver.Receiver.{Receiver}
 use Rattle.stream.proofs.Gathering.{few}

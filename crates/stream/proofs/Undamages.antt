@@ -1,14 +1,14 @@
 -- A stream without damage, and one with a message in the wrong place.
-use Rattle.std.proofs.Common.{◌≡◌, ℕ, suc, ◌+◌, ◌-◌, ◌*◌, ◌^◌, ◌<◌, ◌≤◌, Bool, true, false, cond, ◌⊎◌, List, [], ◌∷◌, ◌++◌, length, get_or, take, drop, Some, None, sym, refl, ap, ◌∙◌, subst, inl, inr, arith}
-use Rattle.std.proofs.lemmas.List.{append_assoc, append-nil, drop_at, length-append, length-drop, length-take-le, take_all, take-append-drop}
+use Rattle.std.proofs.Common.{◌≡◌, ℕ, suc, ◌+◌, ◌-◌, ◌^◌, ◌<◌, ◌≤◌, Bool, true, false, cond, ◌⊎◌, List, [], ◌∷◌, ◌++◌, length, take, drop, Some, None, sym, refl, ap, ◌∙◌, subst, inl, inr, arith}
+use Rattle.std.proofs.lemmas.List.{append_assoc, append-nil, drop_at, length-append, length-drop, take_all, take-append-drop}
 use Rattle.std.proofs.lemmas.Bool.{cases_Bool}
-use Rattle.wire.specs.declared.fault.Fault.TheVariants.{Length, Tag, Malformed}
-use Rattle.seal.specs.Frames.{Secret, Fits, Whole, frame, largest, opened, size_at}
+use Rattle.wire.specs.declared.fault.Fault.TheVariants.{Tag}
+use Rattle.seal.specs.Frames.{Secret, Whole, frame, largest, opened, size_at}
 use Rattle.seal.proofs.Opened.{length-frame, opens-sealed}
-use Rattle.stream.specs.Streams.{Got, arrived, fails, feed, got, is_right, read, start, whole}
+use Rattle.stream.specs.Streams.{Got, arrived, feed, got, is_right, read, start, whole}
 use Rattle.stream.specs.Readers.{Short}
 use Rattle.stream.specs.Promises.{CutIsShort, Forged, Messages, Misplaced, Undamaged, sealed_from}
-use Rattle.stream.proofs.Gathering.{few, short-front, size-append}
+use Rattle.stream.proofs.Gathering.{few, size-append}
 use Rattle.stream.proofs.Feeds.{at_last, at-whole, feed-append, quiet, right-fits, whole-taken}
 
 -- all but some of a whole message

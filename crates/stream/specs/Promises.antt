@@ -1,5 +1,5 @@
 -- What is promised of a stream, whatever bytes come. Assumes nothing.
-use Rattle.std.specs.Prelude.{◌≡◌, ℕ, ◌+◌, ◌^◌, ◌<◌, ◌≤◌, Bool, true, false, ◌⊎◌, List, [], ◌∷◌, ◌++◌, map, length, take, Some, None, ◌≢◌}
+use Rattle.std.specs.Prelude.{◌≡◌, ℕ, ◌+◌, ◌^◌, ◌<◌, ◌≤◌, Bool, true, ◌⊎◌, List, [], ◌∷◌, ◌++◌, map, length, take, Some, None, ◌≢◌}
 use Rattle.hmac.specs.Hmac.{HMAC}
 use Rattle.model.specs.Messages.{ToClient, ToServer}
 use Rattle.wire.specs.Inside.{GoodToClient, GoodToServer, known_to_client, known_to_server, to_client_by, to_client_bytes, to_server_by, to_server_bytes}

@@ -1,9 +1,6 @@
 -- What a reader and a receiver stand for, and what their calls do. Assumes nothing.
-use Rattle.std.specs.Prelude.{◌≡◌, ℕ, ◌+◌, ◌-◌, ◌<◌, ◌≤◌, Bool, List, [], ◌∷◌, ◌++◌, length, take, Some, None, Option}
-use Rattle.wire.specs.declared.fault.Fault.{Fault}
-use Rattle.seal.specs.Frames.{Secret, Whole, largest, size_at}
-use Rattle.seal.specs.Ways.{Stands}
-use Rattle.stream.specs.Streams.{Got, feed}
+use Rattle.std.specs.Prelude.{◌≡◌, ℕ, ◌+◌, ◌-◌, ◌<◌, ◌≤◌, List, ◌++◌, length, take}
+use Rattle.seal.specs.Frames.{Whole, largest, size_at}
 use Rattle.stream.specs.declared.reader.Reader.{Reader}
 use Rattle.stream.specs.declared.gathered.Gathered.{Gathered}
 use Rattle.stream.specs.declared.gathered.Gathered.TheVariants.{More, Frame, Long}

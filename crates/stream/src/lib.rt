@@ -1,4 +1,6 @@
 // A stream of sealed messages, read as it comes.
+#![tactic(auto)]
+
 pub mod gathered;
 pub mod reader;
 pub mod receiver;

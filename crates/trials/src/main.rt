@@ -1,4 +1,6 @@
 // Streams that are cut, damaged and out of order, and what comes of them.
+#![tactic(auto)]
+
 use message::chunk::Chunk;
 use message::to_server::{Request, ToServer};
 use seal::way::{Direction, Way};

@@ -1,6 +1,6 @@
 -- Bytes of a number, and lists of known length.
-use Rattle.std.proofs.Common.{◌≡◌, ℕ, ◌+◌, ◌*◌, ◌/◌, ◌%◌, ◌<◌, List, [], ◌∷◌, length, get_or, sym, refl, ap, ◌∙◌, arith}
-use Rattle.wire.specs.Inside.{bytes32, number32}
+use Rattle.std.proofs.Common.{◌≡◌, ℕ, ◌+◌, ◌*◌, ◌/◌, ◌%◌, ◌<◌, List, [], ◌∷◌, length, get_or, refl, arith}
+use Rattle.wire.specs.Inside.{bytes32}
 
 pub listed-1 : (xs : List ℕ) → length xs ≡ 1 → get_or xs 0 0 ∷ [] ≡ xs
 listed-1 [] e = absurd (omega arith)

@@ -1,6 +1,6 @@
 -- Parts that are put side by side.
-use Rattle.std.proofs.Common.{◌≡◌, ℕ, suc, ◌+◌, ◌≤◌, List, [], ◌∷◌, ◌++◌, length, get_or, take, drop, replicate, sym, refl, ap, ◌∙◌, subst, arith}
-use Rattle.std.proofs.lemmas.List.{append-nil, drop_all, drop-drop, length-drop, length-replicate, take_all}
+use Rattle.std.proofs.Common.{◌≡◌, ℕ, suc, ◌+◌, List, [], ◌∷◌, ◌++◌, length, get_or, take, drop, replicate, ap, ◌∙◌, arith}
+use Rattle.std.proofs.lemmas.List.{append-nil, drop_all, drop-drop, length-replicate, take_all}
 
 three : (n k h l : ℕ) (xs : List ℕ) → drop (3 + n) (k ∷ h ∷ l ∷ xs) ≡ drop n xs
 three n k h l xs =

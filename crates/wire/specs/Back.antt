@@ -1,8 +1,8 @@
 -- What is written is known, and is read back.
-use Rattle.std.specs.Prelude.{◌≡◌, ℕ, ◌+◌, ◌*◌, ◌/◌, ◌%◌, ◌^◌, ◌<◌, ◌≤◌, Bool, true, false, cond, ◌&&◌, List, [], ◌∷◌, length, drop, ◌≢◌, nat_lt, slice_index, slice_index_or, refl}
-use Rattle.std.proofs.Common.{sym, ◌∙◌, ap, arith, eq-eqb, rules}
+use Rattle.std.specs.Prelude.{◌≡◌, ℕ, ◌+◌, ◌*◌, ◌/◌, ◌%◌, ◌^◌, ◌<◌, ◌≤◌, Bool, true, false, cond, List, ◌∷◌, length, drop, ◌≢◌, nat_lt, slice_index, slice_index_or, refl}
+use Rattle.std.proofs.Common.{sym, ◌∙◌, ap, arith, rules}
 use Rattle.model.specs.Messages.{Request, Run, Input, OutputCredit, Eof, Close, Reply, Runs, Output, InputCredit, Exit, ToServer, Login, Tick, For, ToClient, Accepted, Tock, Of}
-use Rattle.wire.specs.Inside.{to_server_bytes, to_client_bytes, to_server_by, to_client_by, request_by, request_kind, request_rest, reply_by, reply_kind, reply_rest, GoodRequest, GoodReply, GoodToServer, GoodToClient, known_to_server, known_to_client, known_request, known_reply, ToServerBack, ToClientBack, ToServerApart, ToClientApart, bytes32, inside, known_by, number32, flag, IsPart, known_part, IsCredit, known_credit}
+use Rattle.wire.specs.Inside.{to_server_bytes, to_client_bytes, to_server_by, to_client_by, request_by, request_kind, request_rest, reply_by, reply_kind, reply_rest, GoodRequest, GoodReply, GoodToServer, GoodToClient, known_to_server, known_to_client, known_request, known_reply, ToServerBack, ToClientBack, ToServerApart, ToClientApart, bytes32, inside, known_by, number32, IsPart, known_part, IsCredit, known_credit}
 
 channel-back : (t : ℕ) → t < 65536 → t / 256 % 256 * 256 + t % 256 ≡ t
 channel-back t h = omega arith

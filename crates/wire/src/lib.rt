@@ -1,4 +1,6 @@
 // A message's inside as bytes, written and read.
+#![tactic(auto)]
+
 pub mod codec;
 pub mod fault;
 mod fields;

@@ -13,8 +13,8 @@ use crate::fields::*;
 use crate::head::Head;
 use crate::unwritten::Unwritten;
 use crate::write;
-use bytes::put;
 use message::to_server::{Request, ToServer};
+use octets::put;
 
 fn request(kind: u8, rest: &[u8]) -> Option<Request>
     ensures { MatchOption result (known_request kind rest.now ≡ false) (λ q. GoodRequest (request_of q) × (request_kind (request_of q) ≡ kind) × (request_rest (request_of q) ≡ rest.now)) }

@@ -5,8 +5,8 @@ ghost use Rattle.wire.specs.Inside.{bytes32, inside, IsCredit, IsPart};
 ghost use Rattle.wire.specs.Writes.{Wrote};
 
 use crate::unwritten::Unwritten;
-use bytes::put;
 use message::chunk::Chunk;
+use octets::put;
 
 pub fn fields(out: &mut [u8], kind: u8, channel: u16, rest: &[u8]) -> Result<usize, Unwritten>
     ensures { Wrote (Unit {0}) (inside kind channel rest.now) out.old result out.new }

@@ -6,7 +6,7 @@ ghost use Rattle.seal.specs.Ways.{Seals, Stands};
 use crate::unsealed::Unsealed;
 use crate::way::Way;
 use crate::way::turns::after;
-use bytes::put;
+use octets::put;
 
 // The most bytes of an inside.
 const LARGEST: usize = 1082;

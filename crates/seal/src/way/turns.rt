@@ -6,7 +6,7 @@ ghost use Rattle.seal.specs.Frames.{body_of, Secret, tag, tag_of, tag_text, turn
 ghost use Rattle.seal.specs.Ways.{next_of, Stands};
 
 use crate::way::Way;
-use bytes::equal;
+use octets::equal;
 
 // The number behind another, where there is one.
 pub fn after(number: u64) -> Option<u64>

@@ -6,7 +6,7 @@ ghost use Rattle.stream.specs.Readers.{Gathers, held_of, Short, used_of};
 
 use crate::gathered::Gathered;
 use crate::reader::Reader;
-use bytes::put;
+use octets::put;
 use seal::way::Way;
 use wire::fault::Fault;
 

@@ -1,4 +1,4 @@
-use Rattle.std.proofs.Common.{◌≡◌, ℕ, List, [], length, ap, subst, arith, rules}
+use Rattle.std.proofs.Common.{◌≡◌, ℕ, List, [], length, subst, arith, rules}
 use Rattle.hmac.specs.Calls.{Takes}
 use Rattle.seal.proofs.Macs.{took}
 use Rattle.seal.proofs.tags.begun.Goals as goal

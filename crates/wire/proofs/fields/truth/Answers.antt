@@ -1,4 +1,4 @@
-use Rattle.std.proofs.Common.{ℕ, [], ◌∷◌, sym, ap, ◌∙◌, rules}
+use Rattle.std.proofs.Common.{rules}
 use Rattle.wire.proofs.Numbers.{listed-1}
 use Rattle.wire.proofs.fields.truth.Goals as goal
 

@@ -1,4 +1,4 @@
-use Rattle.std.proofs.Common.{◌≡◌, ℕ, length, take, drop, replicate, refl, ap, rules}
+use Rattle.std.proofs.Common.{◌≡◌, length, take, drop, replicate, refl, ap, rules}
 use Rattle.wire.specs.Inside.{inside}
 use Rattle.wire.proofs.Parts.{read-login}
 use Rattle.wire.proofs.to_server.login.Goals as goal

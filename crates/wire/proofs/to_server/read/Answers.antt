@@ -4,11 +4,11 @@ use Rattle.wire.specs.Inside.{known_server, known_to_server}
 use Rattle.wire.specs.Back.{never-to-server, unknown, whole}
 use Rattle.wire.proofs.to_server.read.Goals as goal
 
-pub returns-in-default-message : goal.returns-in-default-message
-returns-in-default-message c =
+pub returns-in_default-message : goal.returns-in_default-message
+returns-in_default-message c =
     let t : c.in-Some.head.channel < 65536 = search rules in
     let e : known_to_server c.args.bytes.now ≡ false =
-    unknown known_server c.args.bytes.now _ _ _ t c.in-Some.ensures (take_rest c.args.bytes.now 3) c.in-default-message.ensures in
+    unknown known_server c.args.bytes.now _ _ _ t c.in-Some.ensures (take_rest c.args.bytes.now 3) c.in_default-message.ensures in
     record { message = (refl, e); refused = never-to-server c.args.bytes.now e }
 
 pub returns : goal.returns

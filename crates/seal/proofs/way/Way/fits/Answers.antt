@@ -1,6 +1,6 @@
-use Rattle.std.proofs.Common.{◌≡◌, ℕ, ◌-◌, List, length, take, drop, sym, refl, ap, ◌∙◌, arith}
+use Rattle.std.proofs.Common.{◌≡◌, ℕ, ◌-◌, length, take, sym, refl, ap, ◌∙◌, arith}
 use Rattle.std.proofs.lemmas.List.{take_rest}
-use Rattle.seal.specs.Frames.{Secret, body_of, tag}
+use Rattle.seal.specs.Frames.{body_of}
 use Rattle.seal.proofs.Sealing.{tag-of}
 use Rattle.seal.proofs.way.Way.fits.Goals as goal
 

@@ -4,9 +4,9 @@ use Rattle.seal.proofs.way.Way.new.Goals as goal
 
 pub returns : goal.returns
 returns c =
-    made _ c.args.direction c.args.key.now c.args.client.now c.args.server.now c.prepared-shared.result c.begun.result c.key-mark.result c.tag-mark.result
-    c.key-mark.ensures
-    c.tag-mark.ensures
+    made _ c.args.direction c.args.key.now c.args.client.now c.args.server.now c.prepared-shared.result c.begun.result c.key_mark.result c.tag_mark.result
+    c.key_mark.ensures
+    c.tag_mark.ensures
     (search rules)
     (search rules)
     c.prepared-shared.ensures

@@ -1,6 +1,6 @@
-use Rattle.std.proofs.Common.{◌≡◌, ℕ, ◌+◌, ◌-◌, ◌^◌, ◌<◌, Bool, true, false, T, sym, refl, ap, ◌∙◌, subst, arith, rules}
+use Rattle.std.proofs.Common.{◌≡◌, ℕ, ◌+◌, ◌-◌, ◌^◌, ◌<◌, T, sym, refl, ap, ◌∙◌, subst, arith, rules}
 use borrow.Rule.Slice.PartMut.{put_mid}
-use Rattle.seal.specs.Frames.{body_of, tag, tag_of}
+use Rattle.seal.specs.Frames.{body_of, tag}
 use Rattle.seal.proofs.Sealing.{advanced, number_is, opened-at}
 use Rattle.seal.proofs.way.Way.open.Goals as goal
 

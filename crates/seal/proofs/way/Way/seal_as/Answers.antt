@@ -9,8 +9,8 @@ returns c = λ s n h.
     let mid = put_mid 2 k c.put.new.out c.turn.new.text in
     let z : 2 + c.args.size - 0 ≡ 2 + c.args.size = omega arith in
     let l : length c.tag-tag.result ≡ 32 = search rules in
-    sealed-is s c.args.number c.args.size k c.args.buffer.now c.put.new.out mid c.put-2.new.out c.to-be-bytes.result c.turn.new.text (take (2 + c.args.size - 0) mid) c.tag-tag.result (take 16 c.tag-tag.result)
-    c.to-be-bytes.ensures
+    sealed-is s c.args.number c.args.size k c.args.buffer.now c.put.new.out mid c.put-2.new.out c.to_be_bytes.result c.turn.new.text (take (2 + c.args.size - 0) mid) c.tag-tag.result (take 16 c.tag-tag.result)
+    c.to_be_bytes.ensures
     (omega arith)
     c.requires.1
     c.put.ensures

@@ -1,12 +1,12 @@
-use Rattle.std.proofs.Common.{◌≡◌, ℕ, ◌+◌, ◌-◌, ◌^◌, ◌<◌, ◌≤◌, ◌++◌, length, take, drop, sym, refl, ap, ◌∙◌, arith, rules}
+use Rattle.std.proofs.Common.{◌≡◌, ℕ, ◌+◌, ◌-◌, ◌^◌, ◌<◌, ◌≤◌, ◌++◌, length, take, drop, refl, ap, ◌∙◌, arith, rules}
 use borrow.Rule.Slice.PartMut.{put_mid}
 use Rattle.seal.specs.Frames.{frame}
 use Rattle.seal.proofs.Sealing.{advanced, inside-written, length-mid, length_part, number_is, rest-written, size-within}
 use Rattle.seal.proofs.Refusing.{refused}
 use Rattle.seal.proofs.way.Way.send.Goals as goal
 
-pub seal-as-requires : goal.seal-as-requires
-seal-as-requires g c =
+pub seal_as-requires : goal.seal_as-requires
+seal_as-requires g c =
     let old = c.args.out.now in
     let k = length old - 16 - 2 in
     let lo : 18 ≤ length old = search rules in
@@ -39,7 +39,7 @@ returns-in-Ok g c =
       λ s n h.
           let e : c.in-Some.number ≡ n = number_is c.args.self.now s n c.in-Some.number h c.in-Some.is in (
             omega arith,
-            c.seal-as.ensures s n h ∙ (λ i. frame s (e i) (ei i) ++ er i),
+            c.seal_as.ensures s n h ∙ (λ i. frame s (e i) (ei i) ++ er i),
             advanced c.args.self.now _ s n c.in-Some.number h c.in-Some.is refl refl c.after-self.ensures,
           ),
     )

@@ -1,18 +1,18 @@
-use Rattle.std.proofs.Common.{◌≡◌, ℕ, ◌+◌, ◌<◌, ◌≤◌, length, take, drop, ap, subst, arith, rules}
+use Rattle.std.proofs.Common.{ℕ, ◌+◌, ◌<◌, ◌≤◌, length, subst, rules}
 use Rattle.std.proofs.lemmas.List.{take_rest}
 use Rattle.seal.specs.Frames.{largest, size_at}
 use Rattle.stream.specs.Readers.{held_of}
 use Rattle.stream.proofs.Gathering.{first-long, first_more, second-frame, second_more}
 use Rattle.stream.proofs.reader.Reader.gather.Goals as goal
 
-pub returns-in-default : goal.returns-in-default
-returns-in-default c = record {
+pub returns-in_default : goal.returns-in_default
+returns-in_default c = record {
   within = search rules;
   gathers = λ sh.
       first_more (held_of c.args.self.now) (held_of c.fill-first.new.self) c.args.piece.now c.fill-first.result
       c.fill-first.ensures.used
       c.fill-first.ensures.held
-      c.in-default.ensures;
+      c.in_default.ensures;
 }
 
 pub returns-then-size-gt1082 : goal.returns-then-size-gt1082

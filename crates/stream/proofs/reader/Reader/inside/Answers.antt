@@ -1,4 +1,4 @@
-use Rattle.std.proofs.Common.{◌≡◌, ◌+◌, ◌-◌, ◌≤◌, arith}
+use Rattle.std.proofs.Common.{◌+◌, ◌-◌, arith}
 use Rattle.stream.proofs.Holding.{held-length, inside-held}
 use Rattle.stream.proofs.reader.Reader.inside.Goals as goal
 

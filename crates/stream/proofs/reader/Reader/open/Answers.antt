@@ -2,10 +2,10 @@ use Rattle.std.proofs.Common.{◌≡◌, ℕ, ◌-◌, ◌≤◌, ◌++◌, leng
 use Rattle.stream.proofs.Holding.{front-is, kept-length, opens-moved}
 use Rattle.stream.proofs.reader.Reader.open.Goals as goal
 
-pub invariant-of-self : goal.invariant-of-self
-invariant-of-self c =
+pub invariant_of-self : goal.invariant_of-self
+invariant_of-self c =
     let r = c.args.self.now in
-    ((r.ok.0, kept-length r.n 1100 (r.n - 0) r.buffer c.open.new.frame r.ok.0 r.ok.1 (omega arith) c.open.auto.frame), tt)
+    record { ok = (r.ok.0, kept-length r.n 1100 (r.n - 0) r.buffer c.open.new.frame r.ok.0 r.ok.1 (omega arith) c.open.auto.frame) }
 
 pub returns : goal.returns
 returns c =
