@@ -1,10 +1,10 @@
 -- A row of bytes is at most one instruction's.
-use Rattle.std.proofs.Common.{◌≡◌, ℕ, ◌+◌, ◌*◌, ◌/◌, ◌%◌, ◌<◌, Bool, true, false, cond, List, [], ◌∷◌, ◌++◌, length, get_or, sym, refl, ap, ◌∙◌, subst, mod-lt, arith}
+use Rattle.std.proofs.Common.{◌≡◌, ℕ, ◌+◌, ◌*◌, ◌/◌, ◌%◌, ◌<◌, List, length, get_or, sym, refl, ap, ◌∙◌, subst, mod-lt, arith}
 use native.Mathlib.Bridge.{le_prop}
 use Rattle.bytecode.specs.declared.register.Register.{Register}
 use Rattle.bytecode.specs.declared.instruction.Instruction.{Instruction}
 use Rattle.bytecode.specs.declared.instruction.Instruction.TheVariants.{Const, Move, Add, Compare, Jump, JumpLess, JumpEqual, Load, Store, Read, Write, End, GoOn}
-use Rattle.bytecode.specs.Encoding.{row, encoded, low, guessed}
+use Rattle.bytecode.specs.Encoding.{encoded, low, guessed}
 
 abbrev register : (n : ℕ) → n < 16 → Register
 register n h = record { number = n; ok = h }

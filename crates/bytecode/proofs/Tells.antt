@@ -1,11 +1,11 @@
 -- Bytes tell a program: at most one has them, and what is refused none has.
-use Rattle.std.proofs.Common.{◌≡◌, ℕ, ◌+◌, ◌<◌, ◌≤◌, List, [], ◌∷◌, ◌++◌, length, take, drop, sym, refl, ap, ◌∙◌, subst, append_assoc, append-nil, arith, length-append}
+use Rattle.std.proofs.Common.{◌≡◌, ℕ, ◌+◌, List, [], ◌∷◌, ◌++◌, length, take, sym, refl, ap, ◌∙◌, append_assoc, append-nil, arith, length-append}
 use Rattle.std.proofs.lemmas.List.{take_at, append_cancel_left}
 use Rattle.bytecode.specs.declared.instruction.Instruction.{Instruction}
 use Rattle.bytecode.specs.declared.unreadable.Unreadable.{Unreadable}
 use Rattle.bytecode.specs.declared.unreadable.Unreadable.TheVariants.{NoInstruction, CutShort, TooMany}
 use Rattle.bytecode.specs.Encoding.{encoded, bytes_of}
-use Rattle.bytecode.specs.Reading.{place_of, Rest, Stopped}
+use Rattle.bytecode.specs.Reading.{place_of, Rest}
 use Rattle.bytecode.specs.Laws.{BytesTell, RefusedIsNone}
 use Rattle.bytecode.proofs.Rows.{encoded-apart, length-encoded}
 

@@ -1,4 +1,6 @@
 // A program's instructions, and their bytes.
+#![tactic(auto)]
+
 pub mod instruction;
 pub mod laws;
 pub mod program;

@@ -1,18 +1,16 @@
 -- The proofs of the laws.
-use Rattle.std.proofs.Common.{◌≡◌, ℕ, zero, suc, ◌+◌, ◌*◌, ◌%◌, ◌<◌, ◌≤◌, Bool, true, false, cond, ◌&&◌, leb, ◌⊎◌, List, [], ◌∷◌, ◌++◌, length, get_or, take, drop, set, Some, None, Option, sym, refl, ap, ◌∙◌, subst, inl, inr, eq-or-lt_of_le, arith, length-append, length-set, get_or-set_other, get_or-set_same, leb-true}
+use Rattle.std.proofs.Common.{◌≡◌, ℕ, zero, suc, ◌+◌, ◌%◌, ◌<◌, ◌≤◌, Bool, true, false, cond, ◌&&◌, leb, ◌⊎◌, List, [], ◌∷◌, ◌++◌, length, get_or, set, Some, None, Option, sym, refl, ap, ◌∙◌, inl, inr, eq-or-lt_of_le, arith, length-append, length-set, get_or-set_other, get_or-set_same, leb-true}
 use Rattle.std.proofs.lemmas.List.{get_or_append_left, get_or_at}
 use Rattle.std.specs.List.{slice_get}
-use Rattle.model.specs.Messages.{Does, Reads, Writes, Ends, GoesOn}
+use Rattle.model.specs.Messages.{Reads, Writes, Ends}
 use Rattle.bytecode.specs.declared.instruction.Instruction.{Instruction}
 use Rattle.bytecode.specs.declared.instruction.Instruction.TheVariants.{Const, Move, Add, Compare, Jump, JumpLess, JumpEqual, Load, Store, Read, Write, End, GoOn}
 use Rattle.vm.specs.declared.machine.Machine.{Machine}
-use Rattle.vm.specs.declared.running.Running.{Running}
-use Rattle.vm.specs.declared.table.Table.{Table}
 use Rattle.vm.specs.Step.{get}
 use Rattle.vm.specs.Turn.{stops, stepped, runs}
 use Rattle.vm.specs.Ends.{bytes_from, bytes_to, is_length, asks, asks_at}
-use Rattle.vm.specs.Commands.{code_of, does_of}
-use Rattle.vm.specs.Laws.{steps, Turn, TurnIsShort, Possible, AsksWhatCanBe, WritesRound, ReadsRound}
+use Rattle.vm.specs.Commands.{code_of}
+use Rattle.vm.specs.Laws.{steps, TurnIsShort, Possible, AsksWhatCanBe, WritesRound, ReadsRound}
 
 -- a run of at most n
 pub record Ran (n : ℕ) (c : List Instruction) (m w : Machine) : Type 0 where
@@ -62,16 +60,16 @@ length_from at zero memory = from-none at memory
 length_from at (suc n) memory =
     ap length (from_suc at n memory) ∙ length-append (bytes_from at n memory) (get_or memory ((at + n) % 256) 0 ∷ []) ∙ (let h = length_from at n memory in omega arith)
 
-get_d-from : (at n : ℕ) (memory : List ℕ) (k : ℕ) → k < n → get_or (bytes_from at n memory) k 0 ≡ get_or memory ((at + k) % 256) 0
-get_d-from at zero memory k h = absurd (omega arith)
-get_d-from at (suc n) memory k h = ap (λ l. get_or l k 0) (from_suc at n memory) ∙ go (get_d-from at n memory k) (eq-or-lt_of_le (let l : k ≤ n = omega arith in l))
+get_or-from : (at n : ℕ) (memory : List ℕ) (k : ℕ) → k < n → get_or (bytes_from at n memory) k 0 ≡ get_or memory ((at + k) % 256) 0
+get_or-from at zero memory k h = absurd (omega arith)
+get_or-from at (suc n) memory k h = ap (λ l. get_or l k 0) (from_suc at n memory) ∙ go (get_or-from at n memory k) (eq-or-lt_of_le (let l : k ≤ n = omega arith in l))
   where
     go : (k < n → get_or (bytes_from at n memory) k 0 ≡ get_or memory ((at + k) % 256) 0) → (k ≡ n) ⊎ (k < n) → get_or (bytes_from at n memory ++ (get_or memory ((at + n) % 256) 0 ∷ [])) k 0 ≡ get_or memory ((at + k) % 256) 0
     go ih (inl e) = get_or_at (bytes_from at n memory) (get_or memory ((at + n) % 256) 0) [] 0 k (length_from at n memory ∙ sym e) ∙ ap (λ j. get_or memory ((at + j) % 256) 0) (sym e)
     go ih (inr l) = get_or_append_left (bytes_from at n memory) (get_or memory ((at + n) % 256) 0 ∷ []) 0 k (let e = length_from at n memory in omega arith) ∙ ih l
 
 pub writes-round : WritesRound
-writes-round at n memory = (length_from at n memory, get_d-from at n memory)
+writes-round at n memory = (length_from at n memory, get_or-from at n memory)
 
 to_none : (at : ℕ) (bytes memory : List ℕ) → bytes_to at 0 bytes memory ≡ memory
 unfolding bytes_to

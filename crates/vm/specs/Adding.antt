@@ -1,5 +1,5 @@
 -- One more command in a table, or why there is none. Assumes nothing.
-use Rattle.std.specs.Prelude.{◌≡◌, ℕ, ◌<◌, ◌≤◌, Bool, true, false, cond, List, [], ◌∷◌, length, is_some, Some, None, Ok, Err, Result, ◌==◌}
+use Rattle.std.specs.Prelude.{◌≡◌, ℕ, ◌<◌, true, cond, length, is_some, Some, None, Ok, Err, Result, ◌==◌}
 use Rattle.bytecode.specs.declared.program.Program.{Program}
 use Rattle.vm.specs.declared.table.Table.{Table}
 use Rattle.vm.specs.declared.table.add.NotAdded.{NotAdded}

@@ -1,5 +1,5 @@
 -- The programs of commands, and what a command's program does turn by turn. Assumes nothing.
-use Rattle.std.specs.Prelude.{ℕ, Bool, true, false, cond, List, [], ◌∷◌, Some, None, vec_items, Option, ◌==◌}
+use Rattle.std.specs.Prelude.{ℕ, Bool, cond, List, [], ◌∷◌, Some, None, vec_items, Option, ◌==◌}
 use Rattle.model.specs.Messages.{Does}
 use Rattle.bytecode.specs.declared.instruction.Instruction.{Instruction}
 use Rattle.vm.specs.declared.machine.Machine.{Machine}

@@ -1,5 +1,5 @@
 -- The instructions that end a turn: what they ask for, and what they do once that was done. Assumes nothing.
-use Rattle.std.specs.Prelude.{ℕ, zero, suc, ◌+◌, ◌%◌, Bool, true, false, cond, ◌&&◌, List, [], ◌∷◌, ◌++◌, length, Some, None, Option, nat_le, slice_index, slice_set}
+use Rattle.std.specs.Prelude.{ℕ, zero, suc, ◌+◌, ◌%◌, Bool, cond, ◌&&◌, List, [], ◌∷◌, ◌++◌, length, Some, None, Option, nat_le, slice_index, slice_set}
 use Rattle.std.specs.List.{slice_get}
 use Rattle.model.specs.Messages.{Does, Reads, Writes, Ends, GoesOn}
 use Rattle.vm.specs.declared.machine.Machine.{Machine}

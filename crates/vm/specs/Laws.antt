@@ -1,5 +1,5 @@
 -- What holds of turns, of what programs ask for, and of addresses. Each is a type; a proof of it is the theorem. Assumes nothing.
-use Rattle.std.specs.Prelude.{◌≡◌, ℕ, zero, suc, ◌+◌, ◌%◌, ◌<◌, ◌≤◌, Bool, true, false, ◌⊎◌, List, [], length, ◌≢◌, slice_index}
+use Rattle.std.specs.Prelude.{◌≡◌, ℕ, zero, suc, ◌+◌, ◌%◌, ◌<◌, ◌≤◌, true, false, ◌⊎◌, List, length, ◌≢◌, slice_index}
 use Rattle.model.specs.Messages.{Does, Reads, Writes, Ends, GoesOn}
 use Rattle.bytecode.specs.declared.instruction.Instruction.{Instruction}
 use Rattle.vm.specs.declared.machine.Machine.{Machine}

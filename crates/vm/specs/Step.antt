@@ -1,5 +1,5 @@
 -- What each instruction does to the machine, line by line as docs/MACHINE.md has it. Assumes nothing.
-use Rattle.std.specs.Prelude.{◌≡◌, ℕ, ◌+◌, ◌%◌, Bool, true, false, cond, List, ◌==◌, nat_lt, slice_index, slice_set}
+use Rattle.std.specs.Prelude.{ℕ, ◌+◌, ◌%◌, Bool, true, false, cond, ◌==◌, nat_lt, slice_index, slice_set}
 use Rattle.bytecode.specs.declared.register.Register.{Register}
 use Rattle.vm.specs.declared.machine.Machine.{Machine}
 use Rattle.bytecode.specs.declared.instruction.Instruction.{Instruction}

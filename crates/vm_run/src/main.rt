@@ -1,4 +1,6 @@
 // Plays the programs of a file of cases, and prints what each did.
+#![tactic(auto)]
+
 use crate::fields::Case;
 use crate::play::Played;
 use anyhow::anyhow;

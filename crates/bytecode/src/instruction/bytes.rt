@@ -73,6 +73,10 @@ impl Instruction {
         let n = u32::from_be_bytes([*n0, *n1, *n2, *n3]);
         let guessed = guess(*opcode, *a, *b, *c, n);
         let row = guessed.encode();
-        if row == bytes { Some(guessed) } else { None }
+        if row.as_slice() == bytes {
+            Some(guessed)
+        } else {
+            None
+        }
     }
 }

@@ -1,4 +1,4 @@
-use Rattle.std.proofs.Common.{◌≡◌, ◌<◌, length, refl, arith, length-set}
+use Rattle.std.proofs.Common.{◌<◌, length, refl, arith, length-set}
 use Rattle.vm.proofs.Wraps.{next_address, from-none, from_more}
 use Rattle.vm.proofs.machine.Machine.bytes_from.Goals as goal
 

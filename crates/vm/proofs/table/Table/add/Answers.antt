@@ -1,5 +1,4 @@
 use Rattle.std.proofs.Common.{◌≡◌, None, rules}
-use Rattle.vm.specs.declared.table.Listed.{Listed}
 use Rattle.vm.specs.Commands.{program_of}
 use Rattle.vm.proofs.Found.{added}
 use Rattle.vm.proofs.table.Table.add.Goals as goal

@@ -5,14 +5,14 @@ use Rattle.vm.proofs.table.Table.find.Goals as goal
 
 pub returns-then-listed-command : goal.returns-then-listed-command
 returns-then-listed-command c =
-    ap (λ l. program_in l c.args.command) (sym c.as-slice-all.ensures.value) ∙
-    found_here c.as-slice-all.result.now c.loop-listed.listed-index c.args.command c.listed-item.result c.loop-listed-test.true c.listed-item.is _ c.loop-listed.invariant c.if-listed-command.true
+    ap (λ l. program_in l c.args.command) (sym c.as_slice-all.ensures.value) ∙
+    found_here c.as_slice-all.result.now c.loop-listed.listed-index c.args.command c.listed-item.result c.loop-listed-test.true c.listed-item.is _ c.loop-listed.invariant c.if-listed-command.true
 
 pub loop-listed-preserved : goal.loop-listed-preserved
 loop-listed-preserved c =
-    not-here c.as-slice-all.result.now c.loop-listed.listed-index c.args.command c.listed-item.result c.loop-listed-test.true c.listed-item.is _ c.loop-listed.invariant c.if-listed-command.false
+    not-here c.as_slice-all.result.now c.loop-listed.listed-index c.args.command c.listed-item.result c.loop-listed-test.true c.listed-item.is _ c.loop-listed.invariant c.if-listed-command.false
 
 pub returns : goal.returns
 returns c =
-    ap (λ l. program_in l c.args.command) (sym c.as-slice-all.ensures.value) ∙
-    not_found c.as-slice-all.result.now c.loop-listed.listed-index c.args.command _ c.loop-listed-test.false c.loop-listed.invariant
+    ap (λ l. program_in l c.args.command) (sym c.as_slice-all.ensures.value) ∙
+    not_found c.as_slice-all.result.now c.loop-listed.listed-index c.args.command _ c.loop-listed-test.false c.loop-listed.invariant
