@@ -1,5 +1,5 @@
 #!/usr/bin/env python3
-"""bench: instructions a second of the proved machine (target/bin/vm_run) beside a switch loop in C (gcc -O3), in one run.
+"""bench: instructions a second of the proved machine (crates/vm_run/out/vm_run) beside a switch loop in C (gcc -O3), in one run.
 
 Each program runs without end for 20,000 turns of 10,000 instructions; both must print the same digest. The least processor time of seven runs counts.
 """
@@ -17,7 +17,7 @@ PROGRAMS = {
     'forever': "again: jump again",
 }
 
-out = root / 'target/bench/vm'
+out = root / 'bench/out/vm'
 out.mkdir(parents=True, exist_ok=True)
 subprocess.run(['gcc', '-O3', '-o', out / 'switch', root / 'bench/vm/switch.c'], check=True)
 total = {'proved': 0.0, 'C': 0.0}
@@ -26,7 +26,7 @@ for name, text in PROGRAMS.items():
     (out / 'cases').write_bytes(b'\0' + len(code).to_bytes(2, 'big') + code + b'\0\0' + TURNS.to_bytes(2, 'big'))
     best, said = {}, {}
     for _ in range(7):
-        for who, what in (('proved', root / 'target/bin/vm_run'), ('C', out / 'switch')):
+        for who, what in (('proved', root / 'crates/vm_run/out/vm_run'), ('C', out / 'switch')):
             child = subprocess.Popen([what], cwd=out, stdout=subprocess.PIPE)
             said[who] = child.stdout.read()
             _, status, used = os.wait4(child.pid, 0)
