@@ -1,7 +1,7 @@
 // A set of block numbers below 2,048: one bit a number.
 #![tactic(auto)]
 
-ghost use Rattle.std.specs.Prelude.{◌≡◌, ℕ, ◌-◌, ◌<◌, ◌||◌, leb, length, if◌then◌else◌, Some, None};
+ghost use Rattle.std.specs.Prelude.{◌≡◌, ℕ, ◌-◌, ◌<◌, ◌||◌, length, nat_le, if◌then◌else◌, Some, None};
 ghost use Rattle.blocks.specs.Sets.{has, with, none, tally, first, is_free, lowest};
 
 // How many blocks there are.
@@ -70,7 +70,7 @@ impl Set {
 
     // The `many` lowest numbers that it has not, if there are so many.
     pub fn lowest_free(&self, many: usize) -> Option<Set>
-        ensures { result ≡ (if leb many (tally (is_free (has self.now.bits)) 2048) then Some (record { bits = lowest (has self.now.bits) many 2048 }) else None) }
+        ensures { result ≡ (if nat_le many (tally (is_free (has self.now.bits)) 2048) then Some (record { bits = lowest (has self.now.bits) many 2048 }) else None) }
     {
         let mut taken = Set::empty();
         let mut free = 0;

@@ -1,5 +1,5 @@
 // Channels found, added, changed and removed.
-ghost use Rattle.std.specs.Prelude.{◌≡◌, ℕ, ◌<◌, ◌≤◌, [], ◌∷◌, ◌++◌, length, get_or, MatchOption, ◌≢◌, slice_index_or, slice_set};
+ghost use Rattle.std.specs.Prelude.{◌≡◌, ℕ, ◌<◌, ◌≤◌, [], ◌∷◌, ◌++◌, length, MatchOption, ◌≢◌, slice_index_or, slice_set};
 ghost use Rattle.std.specs.List.{remove};
 ghost use Rattle.held.specs.Views.{entries_of, entry as entry_of};
 ghost use Rattle.held.specs.declared.table.Entry.{Entry};
@@ -33,7 +33,7 @@ impl Table {
 
     // Where the channel of that number stands.
     pub fn find(&self, number: u32) -> Option<usize>
-        ensures { MatchOption result ((k : ℕ) (d : Entry) → k < length (entries_of self.now) → (get_or (entries_of self.now) k d).channel.number ≢ number) (λ i. (i < length (entries_of self.now)) × ((d : Entry) → (get_or (entries_of self.now) i d).channel.number ≡ number)) }
+        ensures { MatchOption result ((k : ℕ) (d : Entry) → k < length (entries_of self.now) → (slice_index_or (entries_of self.now) k d).channel.number ≢ number) (λ i. (i < length (entries_of self.now)) × ((d : Entry) → (slice_index_or (entries_of self.now) i d).channel.number ≡ number)) }
     {
         for i in 0..self.count {
             if u32::from(self.entries[i].channel.number) == number {
@@ -53,7 +53,7 @@ impl Table {
     // The channel at i changed; its slot stays.
     pub fn put(&mut self, i: usize, channel: Channel)
         requires { i < length (entries_of self.old) }
-        ensures { (d : Entry) → entries_of self.new ≡ slice_set (entries_of self.old) i (entry_of (get_or (entries_of self.old) i d).slot channel) }
+        ensures { (d : Entry) → entries_of self.new ≡ slice_set (entries_of self.old) i (entry_of (slice_index_or (entries_of self.old) i d).slot channel) }
     {
         let slot = self.entries[i].slot;
         self.entries[i] = Entry { slot, channel };
