@@ -1,5 +1,5 @@
 // The buffers at one slot; the others stay as they are.
-ghost use Rattle.std.specs.Prelude.{◌≡◌, ◌+◌, ◌≤◌, min, [], ◌++◌, length, take, drop, slice_set};
+ghost use Rattle.std.specs.Prelude.{◌≡◌, ◌+◌, ◌≤◌, min, [], ◌++◌, length, take, drop, replicate, slice_set, IfOk};
 ghost use Rattle.client_channel.specs.Kept.{pair, kept};
 ghost use Rattle.client_channel.specs.Steps.{seen_step, next_of, seen_heard, hear_of, UnlessStays};
 ghost use Rattle.message.specs.Views.{reply as reply_of};
@@ -15,8 +15,10 @@ use message::to_server::Request;
 use std::alloc::{AllocError, Global};
 
 impl Pool {
-    // `Err` where there is no memory for all of them.
-    pub fn new(heap: Global) -> Result<Pool, AllocError> {
+    // All empty; `Err` where there is no memory for all of them.
+    pub fn new(heap: Global) -> Result<Pool, AllocError>
+        ensures { IfOk result (λ p. pool_of p ≡ replicate 16 (pair [] [])) }
+    {
         let mut all = Vec::with_capacity(heap, MOST)?;
         for _ in 0..MOST {
             all.push(Buffers::new(heap)?)?;
