@@ -6,6 +6,7 @@ pub mod bytes;
 pub const LARGEST: usize = 1024;
 
 // `len` bytes of `bytes` count.
+// Kept: a message is a plain value, copied, with its bytes in fixed memory; a vector of fixed capacity is not `Copy`.
 #[derive(Clone, Copy)]
 pub struct Chunk {
     len: usize,

@@ -3,7 +3,7 @@ ghost use Rattle.std.specs.Prelude.{◌≡◌};
 ghost use Rattle.model.specs.Messages.{fault_number};
 ghost use Rattle.message.specs.Views.{fault};
 
-#[derive(Clone, Copy)]
+#[derive(Clone, Copy, PartialEq, Eq, Debug)]
 pub enum Fault {
     // a message that its channel's state rules out
     OutOfTurn,
@@ -17,12 +17,12 @@ pub enum Fault {
     TooManyTries,
 }
 
-impl Fault {
-    // Its number in the table of faults.
-    pub fn number(self) -> u8
-        ensures { result ≡ fault_number (fault self) }
-    {
-        match self {
+// Its number in the table of faults.
+impl From<Fault> for u8 {
+    ghost from_gives = { λ f n. n ≡ fault_number (fault f) };
+
+    fn from(found: Fault) -> u8 {
+        match found {
             Fault::OutOfTurn | Fault::Uncountable => 3,
             Fault::NeverStarted | Fault::BeyondWindow => 4,
             Fault::TooManyTries => 6,

@@ -1,1 +1,2 @@
 pub mod Has
+pub use Rattle.bits.specs.Bits

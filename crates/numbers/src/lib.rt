@@ -3,7 +3,7 @@
 
 ghost use Rattle.std.specs.Prelude.{◌≡◌, vec_len};
 
-pub mod bits;
+pub mod changes;
 
 // Eight numbers to a byte, the least at its lowest bit.
 #[derive(Drop)]

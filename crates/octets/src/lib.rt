@@ -1,7 +1,8 @@
 // Slices of bytes: a copy into a part, and a comparison that reads all.
 #![tactic(auto)]
 
-ghost use Rattle.std.specs.Prelude.{◌≡◌, ◌+◌, ◌≤◌, T, ◌++◌, length, take, drop};
+ghost use Rattle.std.specs.Prelude.{◌≡◌, ◌+◌, ◌≤◌, ◌↔◌, IsTrue, ◌++◌, length, take, drop};
+ghost use Rattle.octets.specs.Differences.{differences};
 
 // Writes `part` into `out`, from `at` on.
 pub fn put(out: &mut [u8], at: usize, part: &[u8])
@@ -12,16 +13,16 @@ pub fn put(out: &mut [u8], at: usize, part: &[u8])
 }
 
 // Whether both hold the same bytes. Of two that are as long as each other every byte is read, whatever they hold.
+// Kept: `==` may stop at the first byte that differs.
 pub fn equal(a: &[u8], b: &[u8]) -> bool
-    ensures same { T result → a.now ≡ b.now }
-    ensures differs { a.now ≡ b.now → T result }
+    ensures { IsTrue result ↔ (a.now ≡ b.now) }
 {
-    if a.len() != b.len() {
-        return false;
-    }
-    let mut difference = 0u8;
-    for i in 0..a.len() {
-        difference |= a[i] ^ b[i];
-    }
-    difference == 0
+    a.len() == b.len() && differences(a, b) == 0
+}
+
+// The bits in which a byte of one differs from that of the other.
+fn differences(a: &[u8], b: &[u8]) -> u8
+    ensures { result ≡ differences a.now b.now }
+{
+    a.iter().zip(b).fold(0, |all, (x, y)| all | (x ^ y))
 }

@@ -1,1 +1,2 @@
 pub mod Actions
+pub mod Grants

@@ -1,17 +1,14 @@
 // Who is accepted, and who may run what.
-ghost use Rattle.std.specs.Prelude.{ℕ, Bool, List, ◌≡◌};
+ghost use Rattle.std.specs.Prelude.{◌≡◌};
+ghost use Rattle.programs.specs.Grants.{Grants};
 
 // The value stands for one connection: a proof is right in that connection alone.
 pub trait Accounts {
-    // whether a user is accepted by a proof: it is right, and the account is open
-    ghost accepts: { Self → ℕ → List ℕ → Bool };
-
-    // whether a user may run a command
-    ghost may: { Self → ℕ → ℕ → Bool };
+    ghost grants: { Self → Grants };
 
     fn is_right(&self, user: u8, proof: &[u8; 32]) -> bool
-        ensures { result ≡ accepts self.now user proof.now };
+        ensures { result ≡ (grants self.now).accepts user proof.now };
 
     fn may_run(&self, user: u8, command: u8) -> bool
-        ensures { result ≡ may self.now user command };
+        ensures { result ≡ (grants self.now).may user command };
 }

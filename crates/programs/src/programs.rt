@@ -1,6 +1,6 @@
 // Programs over a shared environment: whatever starts, runs turn by turn and ends.
-ghost use Rattle.std.specs.Prelude.{ℕ, length, Bool, List, ◌≡◌};
-ghost use Rattle.model.specs.Messages.{Does};
+ghost use Rattle.std.specs.Prelude.{◌≡◌};
+ghost use Rattle.model.specs.Messages as model;
 ghost use Rattle.programs.specs.Actions.{action};
 
 use message::chunk::Chunk;
@@ -17,31 +17,19 @@ pub enum Action {
 pub trait Programs {
     type State: Drop;
 
-    // the state in which a command starts
-    ghost first: { Self → ℕ → Self.State };
-
-    // what a program does next
-    ghost does: { Self → Self.State → Does };
-
-    // its state after a turn, told what it read and whether no more will come
-    ghost next: { Self → Self.State → List ℕ → Bool → Self.State };
-
-    // the environment after that turn
-    ghost after: { Self → Self.State → List ℕ → Bool → Self };
-
-    // the environment once a program has ended
-    ghost release: { Self → Self.State → Self };
+    // the programs of the model that these are
+    ghost meaning: { model.Programs Self.State Self };
 
     fn start(&self, command: u8) -> Self::State
-        ensures { result ≡ first self.now command };
+        ensures { result ≡ meaning.first self.now command };
 
     fn ask(&self, state: &Self::State) -> Action
-        ensures { action result ≡ does self.now state.now };
+        ensures { action result ≡ meaning.does self.now state.now };
 
     fn resume(&mut self, state: &mut Self::State, read: &[u8], eof: bool)
-        ensures state { state.new ≡ next self.old state.old read.now eof }
-        ensures shared { self.new ≡ after self.old state.old read.now eof };
+        ensures state { state.new ≡ meaning.next self.old state.old read.now eof }
+        ensures shared { self.new ≡ meaning.after self.old state.old read.now eof };
 
     fn finish(&mut self, state: &Self::State)
-        ensures { self.new ≡ release self.old state.now };
+        ensures { self.new ≡ meaning.release self.old state.now };
 }

@@ -1,8 +1,9 @@
 // A chunk made from bytes, and read as bytes.
-ghost use Rattle.std.specs.Prelude.{◌≡◌, ◌<◌, ◌≤◌, length, take, MatchOption};
+ghost use Rattle.std.specs.Prelude.{◌≡◌, ◌<◌, ◌≤◌, ◌↔◌, IsTrue, [], length, take, drop, MatchOption};
 ghost use Rattle.message.specs.Views.{chunk_bytes};
 
 use crate::chunk::{Chunk, LARGEST};
+use ring::Ring;
 
 impl Chunk {
     // The bytes, unless they are too many for one message.
@@ -26,10 +27,27 @@ impl Chunk {
         Chunk { len, bytes }
     }
 
+    // The first bytes of a ring, moved out.
+    pub fn taken<const N: usize>(bytes: &mut Ring<N>, count: usize) -> Chunk
+        requires { (count ≤ 1024) × (count ≤ length bytes.old) }
+        ensures first { chunk_bytes result ≡ take count bytes.old }
+        ensures left { bytes.new ≡ drop count bytes.old }
+    {
+        let mut all = [0; LARGEST];
+        let len = bytes.take(&mut all[0..count]);
+        Chunk::front(all, len)
+    }
+
     pub fn len(&self) -> usize
         ensures { result ≡ length (chunk_bytes self.now) }
     {
         self.len
+    }
+
+    pub fn is_empty(&self) -> bool
+        ensures { IsTrue result ↔ (chunk_bytes self.now ≡ []) }
+    {
+        self.len == 0
     }
 
     pub fn as_slice(&self) -> &[u8]

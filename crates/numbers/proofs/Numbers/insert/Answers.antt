@@ -1,16 +1,22 @@
-use Rattle.std.proofs.Common.{◌≡◌, ◌*◌, ◌/◌, ◌%◌, ◌^◌, ◌<◌, length, get_or, set, vec_items, ap, ◌∙◌, arith}
-use lib.Bits.{bit_or}
-use Rattle.std.proofs.lemmas.List.{get_or_read_under}
-use Rattle.numbers.specs.Has.{has, has_bit}
-use Rattle.numbers.proofs.Powers.{bit-set}
+use Rattle.std.proofs.Common.{◌≡◌, ℕ, Bool, true, false, cond, ◌||◌, eqb, List, length, vec_items, refl, ap, ◌∙◌, arith}
+use Rattle.std.proofs.lemmas.List.{with_items_is}
+use Rattle.bits.specs.Bits as bits
+use Rattle.bits.proofs.Member.{has-with, length-with}
+use Rattle.numbers.specs.Has.{has}
 use Rattle.numbers.proofs.Numbers.insert.Goals as goal
+
+or_if : (a b : Bool) → (a || b) ≡ cond a true b
+or_if true b = refl
+or_if false b = refl
 
 pub returns : goal.returns
 unfolding has
 returns c n =
+    let k : ℕ = c.args.number in
     let b = c.args.self.now.bytes in
-    let o = c.args.self.now.ok in
-    let k = b.ok.0 in
-    let l : c.args.number / 8 < length (vec_items b) = let f = c.ranges.number.fits in omega arith in
-    let x : c.index_mut.result.now ≡ get_or (vec_items b) (c.args.number / 8) 0 = get_or_read_under (vec_items b) (c.args.number / 8) b.len c.index_mut.result.now 0 c.index_mut.ensures.value (omega arith) k in
-    ap (λ y. has_bit (set (vec_items b) (c.args.number / 8) (bit_or y (1 * 2 ^ (c.args.number % 8) % 256))) n) x ∙ bit-set (vec_items b) c.args.number n l
+    let f = c.ranges.number.fits in
+    let e : c.insert.new.bytes ≡ bits.with (vec_items b) k = c.insert.ensures ∙ ap (λ (ys : List ℕ). bits.with ys k) c.as_mut_slice.ensures.value in
+    let l : length c.insert.new.bytes ≡ length (vec_items b) = ap length e ∙ length-with (vec_items b) k in
+    ap (λ (ys : List ℕ). bits.has ys n) (with_items_is b c.insert.new.bytes (omega (arith, b.ok.0)) ∙ e)
+    ∙ has-with (vec_items b) k n (omega (arith, b.ok.0, c.args.self.now.ok))
+    ∙ or_if (eqb n k) (bits.has (vec_items b) n)

@@ -1,8 +1,9 @@
-use Rattle.std.proofs.Common.{sym}
-use Rattle.ring.specs.Held.{capacity_of}
-use Rattle.ring.proofs.Turned.{length-held}
+use Rattle.std.proofs.Common.{sym, vec_items, arith}
+use Rattle.ring.proofs.Held.{count-held}
 use Rattle.ring.proofs.Ring.len.Goals as goal
 
 pub returns : goal.returns
-unfolding capacity_of
-returns c = sym (length-held c.args.self.now)
+returns g c =
+    let m = c.self.inside.memory.ok.0 in
+    let n = count-held c.self.inside.head c.self.inside.len (vec_items c.self.inside.memory) c.args.self.now c.self.view_is (omega (arith, c.self.invariant)) in
+    record { count = sym n; within = omega (arith, c.self.invariant) }
