@@ -2,8 +2,6 @@
 ghost use Rattle.model.specs.Cases.{CasesHold};
 
 // Every row of the table holds of the definitions, under the real limits.
-pub fn cases_hold() -> u8
+pub fn cases_hold()
     ensures { CasesHold }
-{
-    0
-}
+{}

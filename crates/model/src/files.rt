@@ -3,57 +3,41 @@ ghost use Rattle.model.specs.FilePromises.{FilesWhole, OldOrNew, GetKeepsItsFile
 ghost use Rattle.model.specs.PutPromises.{StorageIsFiles, EndsWellIfWhole};
 
 // Each name has the file that was put last, whole, and none where none was.
-pub fn files_whole() -> u8
+pub fn files_whole()
     ensures { FilesWhole }
-{
-    0
-}
+{}
 
 // One event, a crash among them, leaves a name its file or gives it the new one.
-pub fn old_or_new() -> u8
+pub fn old_or_new()
     ensures { OldOrNew }
-{
-    0
-}
+{}
 
 // A get under way reads the file that held when it began.
-pub fn get_keeps_its_file() -> u8
+pub fn get_keeps_its_file()
     ensures { GetKeepsItsFile }
-{
-    0
-}
+{}
 
 // The blocks of a put under way are in no record that holds, in no other put and in no get.
-pub fn puts_alone() -> u8
+pub fn puts_alone()
     ensures { PutsAlone }
-{
-    0
-}
+{}
 
 // Under any programs of a table, put and get among them, the files are what some list of their own events leads to.
-pub fn storage_is_files() -> u8
+pub fn storage_is_files()
     ensures { StorageIsFiles }
-{
-    0
-}
+{}
 
 // A put ends with 0 only when all bytes and their digest have come; its name then has them.
-pub fn ends_well_if_whole() -> u8
+pub fn ends_well_if_whole()
     ensures { EndsWellIfWhole }
-{
-    0
-}
+{}
 
 // A put that could begin and was given all its bytes commits where there is room for its name, which then has exactly these.
-pub fn put_goes_through() -> u8
+pub fn put_goes_through()
     ensures { PutGoesThrough }
-{
-    0
-}
+{}
 
 // A put that is refused changes nothing.
-pub fn refused_leaves_files() -> u8
+pub fn refused_leaves_files()
     ensures { RefusedLeavesFiles }
-{
-    0
-}
+{}

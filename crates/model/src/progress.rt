@@ -3,85 +3,61 @@ ghost use Rattle.model.specs.Dropped.{LateReplyDropped, LateRequestDropped, Late
 ghost use Rattle.model.specs.Progress.{Settles, CanSettle, OutputComes, InputComes, AllInputComes, RightLoginAccepted, CanLogIn, CanStart};
 
 // A reply for a channel that was refused or closed changes nothing at the client.
-pub fn late_reply_dropped() -> u8
+pub fn late_reply_dropped()
     ensures { LateReplyDropped }
-{
-    0
-}
+{}
 
 // A request for a channel that was forgotten or refused changes nothing at the server.
-pub fn late_request_dropped<S, E>() -> u8
+pub fn late_request_dropped<S, E>()
     ensures { LateRequestDropped S E }
-{
-    0
-}
+{}
 
 // A login after one was accepted changes nothing.
-pub fn later_login_refused<S, E>() -> u8
+pub fn later_login_refused<S, E>()
     ensures { LaterLoginRefused S E }
-{
-    0
-}
+{}
 
 // A login that is not accepted counts as a try, and the last that may fail takes the server down.
-pub fn wrong_login_counts<S, E>() -> u8
+pub fn wrong_login_counts<S, E>()
     ensures { WrongLoginCounts S E }
-{
-    0
-}
+{}
 
 // A right login is accepted when it arrives while nobody is.
-pub fn right_login_accepted<S, E>() -> u8
+pub fn right_login_accepted<S, E>()
     ensures { RightLoginAccepted S E }
-{
-    0
-}
+{}
 
 // Any order of arrivals comes to an end with no fault, unless logins on the way take the server down.
-pub fn settles<S, E>() -> u8
+pub fn settles<S, E>()
     ensures { Settles S E }
-{
-    0
-}
+{}
 
 // Arrivals empty both ways.
-pub fn can_settle<S, E>() -> u8
+pub fn can_settle<S, E>()
     ensures { CanSettle S E }
-{
-    0
-}
+{}
 
 // All that a program wrote, and its exit, come to a user who takes them.
-pub fn output_comes<S, E>() -> u8
+pub fn output_comes<S, E>()
     ensures { OutputComes S E }
-{
-    0
-}
+{}
 
 // What was typed comes in as far as there is room, with eof where all fits.
-pub fn input_comes<S, E>() -> u8
+pub fn input_comes<S, E>()
     ensures { InputComes S E }
-{
-    0
-}
+{}
 
 // A program that reads gets all that was typed.
-pub fn all_input_comes<S, E>() -> u8
+pub fn all_input_comes<S, E>()
     ensures { AllInputComes S E }
-{
-    0
-}
+{}
 
 // A right login is accepted, and the client is told.
-pub fn can_log_in<S, E>() -> u8
+pub fn can_log_in<S, E>()
     ensures { CanLogIn S E }
-{
-    0
-}
+{}
 
 // A start by who may is told to run.
-pub fn can_start<S, E>() -> u8
+pub fn can_start<S, E>()
     ensures { CanStart S E }
-{
-    0
-}
+{}
