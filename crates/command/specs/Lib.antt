@@ -4,3 +4,4 @@ pub mod Meaning
 pub mod Orders
 pub mod Programs
 pub mod Said
+pub mod Written

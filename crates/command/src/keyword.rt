@@ -1,10 +1,12 @@
 // The words that a line begins with.
 ghost use Rattle.std.specs.Prelude.{◌≡◌};
-ghost use Rattle.command.specs.Keywords.{keyword_of, named, name_of};
+ghost use Rattle.std.specs.Option.{ok_or};
+ghost use Rattle.token.specs.declared.fault.Fault.TheVariants.{Bad};
+ghost use Rattle.command.specs.Keywords.{keyword_of};
 
-use crate::arguments::same;
+use token::fault::Fault;
 
-#[derive(Clone, Copy)]
+#[derive(Clone, Copy, PartialEq, Eq, Debug)]
 pub enum Keyword {
     User,
     May,
@@ -22,59 +24,29 @@ pub enum Keyword {
     Connect,
 }
 
-const KEYWORDS: [Keyword; 14] = [
-    Keyword::User,
-    Keyword::May,
-    Keyword::Program,
-    Keyword::Login,
-    Keyword::Run,
-    Keyword::Input,
-    Keyword::Close,
-    Keyword::Take,
-    Keyword::Turn,
-    Keyword::Round,
-    Keyword::Arrive,
-    Keyword::Tick,
-    Keyword::Cut,
-    Keyword::Connect,
-];
+impl TryFrom<&[u8]> for Keyword {
+    type Error = Fault;
 
-fn find(all: &[Keyword], word: &[u8]) -> Option<Keyword>
-    ensures { result ≡ named all.now word.now }
-{
-    for k in all {
-        if same(word, k.name()) {
-            return Some(*k);
+    ghost try_from_gives = { λ w r. r ≡ ok_or (keyword_of w.now) Bad };
+
+    #[tactic(auto, unfolding(crate::specs::Keywords::keyword_of, crate::specs::Keywords::named))]
+    fn try_from(word: &[u8]) -> Result<Keyword, Fault> {
+        match word {
+            b"user" => Ok(Keyword::User),
+            b"may" => Ok(Keyword::May),
+            b"program" => Ok(Keyword::Program),
+            b"login" => Ok(Keyword::Login),
+            b"run" => Ok(Keyword::Run),
+            b"type" => Ok(Keyword::Input),
+            b"close" => Ok(Keyword::Close),
+            b"take" => Ok(Keyword::Take),
+            b"turn" => Ok(Keyword::Turn),
+            b"round" => Ok(Keyword::Round),
+            b"arrive" => Ok(Keyword::Arrive),
+            b"tick" => Ok(Keyword::Tick),
+            b"cut" => Ok(Keyword::Cut),
+            b"connect" => Ok(Keyword::Connect),
+            _ => Err(Fault::Bad),
         }
-    }
-    None
-}
-
-impl Keyword {
-    fn name(self) -> &'static [u8]
-        ensures { result.now ≡ name_of self }
-    {
-        match self {
-            Keyword::User => b"user",
-            Keyword::May => b"may",
-            Keyword::Program => b"program",
-            Keyword::Login => b"login",
-            Keyword::Run => b"run",
-            Keyword::Input => b"type",
-            Keyword::Close => b"close",
-            Keyword::Take => b"take",
-            Keyword::Turn => b"turn",
-            Keyword::Round => b"round",
-            Keyword::Arrive => b"arrive",
-            Keyword::Tick => b"tick",
-            Keyword::Cut => b"cut",
-            Keyword::Connect => b"connect",
-        }
-    }
-
-    pub fn of(word: &[u8]) -> Option<Keyword>
-        ensures { result ≡ keyword_of word.now }
-    {
-        find(&KEYWORDS, word)
     }
 }

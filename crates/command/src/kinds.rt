@@ -10,7 +10,7 @@ pub enum Action {
 }
 
 // Which messages arrive: one at the server, one at the client, or all that are on the way.
-#[derive(Clone, Copy)]
+#[derive(Clone, Copy, PartialEq, Eq, Debug)]
 pub enum Way {
     There,
     Here,
@@ -18,7 +18,7 @@ pub enum Way {
 }
 
 // Which sides learn of a cut: the client, the server, or both.
-#[derive(Clone, Copy)]
+#[derive(Clone, Copy, PartialEq, Eq, Debug)]
 pub enum Ends {
     Here,
     Far,

@@ -1,9 +1,9 @@
 // The commands of a script, and what the words of a line say.
 #![tactic(auto)]
 
-mod arguments;
 pub mod keyword;
 pub mod kinds;
-mod program;
+mod row;
 pub mod said;
-mod simple;
+mod words;
+mod written;

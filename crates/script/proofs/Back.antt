@@ -1,12 +1,13 @@
 -- What is written of good commands is read as them.
-use Rattle.std.proofs.Common.{◌≡◌, ℕ, ◌+◌, ◌^◌, ◌<◌, Bool, true, false, List, [], ◌∷◌, ◌++◌, Some, Ok, codes, decimal, sym, refl, ap, ◌∙◌, subst, ap₂, append_assoc, arith}
+use Rattle.std.proofs.Common.{◌≡◌, ℕ, ◌+◌, ◌^◌, ◌<◌, Bool, true, false, eqb, List, [], ◌∷◌, ◌++◌, Some, Ok, codes, decimal, sym, refl, ap, ◌∙◌, subst, ap₂, append_assoc, arith}
 use Rattle.std.specs.Option.{option_map}
 use Rattle.std.specs.List.{AllByRecursion}
-use Rattle.token.specs.Words.{cut_at, words_of}
+use Rattle.std.proofs.lemmas.List.Splits.{slice_split_at}
+use Rattle.token.specs.Words.{words_of}
 use Rattle.token.specs.Written.{quoted_of, unwords_of}
 use Rattle.token.proofs.Back.{number-back, number-kept}
 use Rattle.token.proofs.BackBytes.{bytes_back, bytes-kept}
-use Rattle.token.proofs.Whole.{Kept, words_back, cut-back}
+use Rattle.token.proofs.Whole.{Kept, OneLine, words_back, unwords_line}
 use Rattle.command.specs.Keywords.{keyword_of, named}
 use Rattle.command.specs.Meaning.{user_of, byte_of, short_of, wide_of, open_of, way_of, ends_of, both}
 use Rattle.command.specs.Orders.{Step, read, write, end, go, Order, user, may, program, login, run, input, close, takes, turn, round, arrive, tick, cuts, connect}
@@ -21,8 +22,8 @@ use Rattle.command.specs.declared.kinds.Way.TheVariants as way
 use Rattle.command.proofs.Rows.{steps-go, steps-two, limit-in}
 use Rattle.script.specs.Good.{GoodUser, GoodByte, GoodShort, GoodWide, GoodStep, Good, ReadsBack}
 use Rattle.script.specs.Lines.{called_of, worded_of, line_of, lines_of, then, from_line}
-use Rattle.script.specs.Written.{steps_words, open_word, way_word, ends_word, line_for, written_of}
-use Rattle.script.proofs.Lines.{By, cut-lines}
+use Rattle.command.specs.Written.{steps_words, open_word, way_word, ends_word, line_for}
+use Rattle.script.specs.Written.{written_of}
 
 user-back : (u : ℕ) → GoodUser u → user_of (decimal u) ≡ Some u
 user-back u g = number-back 1 255 u g.0 g.1 (omega arith)
@@ -120,20 +121,17 @@ line-back o s =
     ∙ ap (λ key. called_of key s.others) s.named-so
     ∙ ap (option_map Some) s.says
 
-cut_line : (o : Order) (text : List ℕ) → Spelled o → cut_at 10 ((line_for o ++ 10 ∷ []) ++ text) ≡ Some (line_for o, text)
-cut_line o text s =
-    ap (cut_at 10) (append_assoc (line_for o) (10 ∷ []) text)
-    ∙ ap (λ l. cut_at 10 (l ++ 10 ∷ text)) s.line
-    ∙ cut-back s.word s.others text s.first s.rest
-    ∙ ap (λ l. Some (l, text)) (sym s.line)
+first-line : (o : Order) (text : List ℕ) → Spelled o → lines_of ((line_for o ++ 10 ∷ []) ++ text) ≡ line_for o ∷ lines_of text
+first-line o text s =
+    ap lines_of (append_assoc (line_for o) (10 ∷ []) text)
+    ∙ slice_split_at (λ b. eqb b 10) (line_for o) 10 text (subst OneLine (sym s.line) (unwords_line s.word s.others s.first s.rest)) refl
 
 from_back : (n : ℕ) (os : List Order) → AllByRecursion Good os → from_line n (lines_of (written_of os)) ≡ Ok os
-unfolding from_line lines_of words_of
+unfolding from_line words_of
 from_back n [] g = refl
 from_back n (o ∷ os) g =
     let s = spelled o g.0 in
-    ap (from_line n) (subst (By (written_of (o ∷ os))) (cut_line o (written_of os) s) (cut-lines (written_of (o ∷ os)))).0
-    ∙ ap₂ (then (n + 1)) (line-back o s) (from_back (n + 1) os g.1)
+    ap (from_line n) (first-line o (written_of os) s) ∙ ap₂ (then (n + 1)) (line-back o s) (from_back (n + 1) os g.1)
 
 pub reads-back : ReadsBack
 reads-back os g = from_back 0 os g

@@ -1,4 +1,3 @@
-pub mod Adding
 pub mod Back
 pub mod Lines
 pub mod Sound

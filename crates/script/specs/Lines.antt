@@ -1,5 +1,6 @@
 -- What a script says: its commands, or the number of its first bad line.
-use Rattle.std.specs.Prelude.{ℕ, ◌+◌, cond, List, [], ◌∷◌, Some, None, Ok, Err, Option, Result, ◌==◌}
+use Rattle.std.specs.Prelude.{ℕ, ◌+◌, List, [], ◌∷◌, Some, None, Ok, Err, Option, Result, ◌==◌}
+use Rattle.std.specs.List.{slice_split}
 use Rattle.std.specs.Option.{option_map}
 use Rattle.token.specs.Words.{words_of}
 use Rattle.token.specs.declared.mode.Mode.TheVariants.{Plain}
@@ -21,14 +22,9 @@ worded_of (Some (w ∷ ws)) = called_of (keyword_of w) ws
 abbrev pub line_of : List ℕ → Option (Option Order)
 line_of l = worded_of (words_of Plain [] l)
 
-abbrev pub grown : ℕ → List (List ℕ) → List (List ℕ)
-grown b [] = (b ∷ []) ∷ []
-grown b (l ∷ ls) = (b ∷ l) ∷ ls
-
 -- the text cut at each newline
-unfoldable pub lines_of : List ℕ → List (List ℕ)
-lines_of [] = [] ∷ []
-lines_of (b ∷ bs) = cond (b == 10) ([] ∷ lines_of bs) (grown b (lines_of bs))
+abbrev pub lines_of : List ℕ → List (List ℕ)
+lines_of text = slice_split (λ b. b == 10) text
 
 abbrev pub before : Order → Result (List Order) ℕ → Result (List Order) ℕ
 before o (Ok os) = Ok (o ∷ os)

@@ -1,5 +1,5 @@
 // Scripts read: to the end, or to the first bad line.
-ghost use Rattle.std.specs.Prelude.{◌≡◌, ◌+◌, ◌^◌, ◌<◌, ◌++◌, length, IfOk};
+ghost use Rattle.std.specs.Prelude.{◌≡◌, IfOk};
 ghost use Rattle.std.specs.Option.{option_map};
 ghost use Rattle.token.specs.Reads.{Reads};
 ghost use Rattle.command.specs.Orders.{order_of};
@@ -7,26 +7,26 @@ ghost use Rattle.script.specs.Lines.{line_of, script_of};
 ghost use Rattle.script.specs.declared.reader.Unreadable.{Unreadable};
 ghost use Rattle.std.specs.List.{AllByRecursion};
 ghost use Rattle.script.specs.Good.{Good};
-ghost use Rattle.script.specs.Answers.{orders, Script, Took};
+ghost use Rattle.script.specs.Answers.{Numbered, orders, Script};
 
 use command::keyword::Keyword;
 use command::kinds::Command;
 use command::said::said;
-use std::alloc::{AllocError, AllocFailed, Global};
+use std::alloc::{AllocError, Global};
 use token::fault::Fault;
-use token::words::{cut, words};
+use token::words::words;
 
-#[derive(Clone, Copy, PartialEq)]
+#[derive(Clone, Copy, PartialEq, Eq, Debug)]
 pub enum Unreadable {
     // The first bad line, by its number from 1.
     Line(usize),
     NoMemory,
 }
 
-impl<T: Drop> From<AllocFailed<T>> for Unreadable {
+impl From<AllocError> for Unreadable {
     ghost from_gives = { λ _ r. r ≡ Unreadable.NoMemory };
 
-    fn from(_e: AllocFailed<T>) -> Unreadable {
+    fn from(_e: AllocError) -> Unreadable {
         Unreadable::NoMemory
     }
 }
@@ -39,36 +39,18 @@ fn line(heap: Global, text: &[u8]) -> Result<Option<Command>, Fault>
     let Some((first, args)) = words.as_slice().split_first() else {
         return Ok(None);
     };
-    let Some(keyword) = Keyword::of(first) else {
-        return Err(Fault::Bad);
-    };
-    let command = said(heap, keyword, args)?;
-    Ok(Some(command))
+    let keyword = Keyword::try_from(*first)?;
+    Ok(Some(said(heap, keyword, args)?))
 }
 
-// The line that stands behind `before` others: its command goes to `out`.
-fn take_line(
-    heap: Global,
-    out: &mut Vec<Command>,
-    text: &[u8],
-    before: usize,
-) -> Result<(), Unreadable>
-    requires { before + length text.now < 2 ^ 64 }
-    ensures { Took (orders out.old) before (line_of text.now) result (orders out.new) }
+// The same of the line of that number, from 1.
+fn numbered(heap: Global, number: usize, text: &[u8]) -> Result<Option<Command>, Unreadable>
+    ensures { Numbered number (line_of text.now) result }
 {
-    match line(heap, text) {
-        Ok(said) => match said {
-            Some(command) => {
-                out.push(command)?;
-                Ok(())
-            }
-            None => Ok(()),
-        },
-        Err(fault) => match fault {
-            Fault::Bad => Err(Unreadable::Line(before + 1)),
-            Fault::NoMemory => Err(Unreadable::NoMemory),
-        },
-    }
+    line(heap, text).map_err(|fault| match fault {
+        Fault::Bad => Unreadable::Line(number),
+        Fault::NoMemory => Unreadable::NoMemory,
+    })
 }
 
 // The commands of a script, or its first bad line.
@@ -77,13 +59,8 @@ pub fn read(heap: Global, text: &[u8]) -> Result<Vec<Command>, Unreadable>
     ensures good { IfOk result (λ v. AllByRecursion Good (orders v)) }
 {
     let mut out = Vec::new(heap);
-    let mut rest = text;
-    let mut before = 0;
-    while let Some((line, after)) = cut(rest, b'\n') {
-        take_line(heap, &mut out, line, before)?;
-        rest = after;
-        before += 1;
+    for (before, part) in text.split(|b| *b == b'\n').enumerate() {
+        out.extend(numbered(heap, before + 1, part)?)?;
     }
-    take_line(heap, &mut out, rest, before)?;
     Ok(out)
 }

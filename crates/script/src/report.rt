@@ -5,30 +5,25 @@ ghost use Rattle.script.specs.Lines.{script_of};
 ghost use Rattle.script.specs.Reports.{accepted_of, refused_of, report_of};
 
 use crate::reader::{Unreadable, read};
-use crate::writer::write;
+use crate::writer::lines;
 use command::kinds::Command;
 use std::alloc::{AllocError, Global};
 
 fn accepted(heap: Global, commands: &[Command]) -> Result<Vec<u8>, AllocError>
     ensures { IfOk result (λ v. v.items ≡ accepted_of (map order_of commands.now)) }
 {
-    let mut out = write(heap, commands)?;
-    let count = commands.len().to_string(heap)?;
-    out.extend_from_slice(count.as_bytes())?;
-    out.extend_from_slice(b" commands\n")?;
-    Ok(out)
+    let mut out = lines(heap, commands)?;
+    let count = commands.len();
+    writeln!(out, "{count} commands")?;
+    Ok(out.into_bytes())
 }
 
 // Fault 14 and the line's number.
 fn refused(heap: Global, line: usize) -> Result<Vec<u8>, AllocError>
     ensures { IfOk result (λ v. v.items ≡ refused_of line) }
 {
-    let mut out = Vec::new(heap);
-    let number = line.to_string(heap)?;
-    out.extend_from_slice(b"14 ")?;
-    out.extend_from_slice(number.as_bytes())?;
-    out.extend_from_slice(b"\n")?;
-    Ok(out)
+    let said = format!(in heap; "14 {line}\n")?;
+    Ok(said.into_bytes())
 }
 
 pub fn report(heap: Global, text: &[u8]) -> Result<Vec<u8>, AllocError>
@@ -36,9 +31,7 @@ pub fn report(heap: Global, text: &[u8]) -> Result<Vec<u8>, AllocError>
 {
     match read(heap, text) {
         Ok(commands) => accepted(heap, commands.as_slice()),
-        Err(unreadable) => match unreadable {
-            Unreadable::Line(line) => refused(heap, line),
-            Unreadable::NoMemory => Err(AllocError),
-        },
+        Err(Unreadable::Line(line)) => refused(heap, line),
+        Err(Unreadable::NoMemory) => Err(AllocError),
     }
 }

@@ -1,8 +1,9 @@
--- A cut at a mark, one byte on.
-use Rattle.std.proofs.Common.{◌≡◌, ℕ, ◌+◌, ◌<◌, ◌≤◌, List, [], ◌∷◌, ◌++◌, length, get_or, take, drop, Some, None, Option, sym, refl, ap, ◌∙◌, append_assoc}
+-- A cut at the first place of a mark.
+use Rattle.std.proofs.Common.{◌≡◌, ℕ, ◌+◌, Bool, true, false, cond, eqb, List, [], ◌∷◌, ◌++◌, length, take, drop, Some, None, Option, sym, refl, ap, ◌∙◌, ap₂, append_assoc, append-nil, length-append}
 use Rattle.std.specs.Option.{option_map}
-use Rattle.std.proofs.lemmas.List.{at_drop_more, at_drop_all, take_more, append-nil}
-use Rattle.std.proofs.lemmas.Bool.{cond-true, cond-false, eq-eqb, ne_eqb}
+use Rattle.std.specs.List.{position, position_from}
+use Rattle.std.proofs.lemmas.Iterator.Adapters.{position_from-zero}
+use Rattle.std.proofs.Math.Seq.{take-append_seam, drop-append-add}
 use Rattle.token.specs.Words.{cut_at, after}
 
 pub after-after : (a b : List ℕ) (o : Option (List ℕ × List ℕ)) → option_map (after a) (option_map (after b) o) ≡ option_map (after (a ++ b)) o
@@ -13,16 +14,18 @@ pub cut-none : (o : Option (List ℕ × List ℕ)) → option_map (after []) o �
 cut-none None = refl
 cut-none (Some p) = refl
 
-module _ (mark : ℕ) (s : List ℕ) (i : ℕ) where
-  pub cut-here : i < length s → get_or s i 0 ≡ mark → option_map (after (take i s)) (cut_at mark (drop i s)) ≡ Some (take i s, drop (i + 1) s)
-  unfolding cut_at
-  cut-here h e = ap (option_map (after (take i s))) (at_drop_more (cut_at mark) s i 0 h ∙ cond-true _ _ _ (eq-eqb _ _ e)) ∙ ap (λ l. Some (l, drop (i + 1) s)) (append-nil (take i s))
+-- what stands before and after a place
+abbrev pub parted : List ℕ → ℕ → List ℕ × List ℕ
+parted s i = (take i s, drop (i + 1) s)
 
-  pub cut-more : i < length s → (get_or s i 0 ≡ mark → ⊥) → option_map (after (take (i + 1) s)) (cut_at mark (drop (i + 1) s)) ≡ option_map (after (take i s)) (cut_at mark (drop i s))
-  unfolding cut_at
-  cut-more h e =
-      sym (ap (option_map (after (take i s))) (at_drop_more (cut_at mark) s i 0 h ∙ cond-false _ _ _ (ne_eqb _ _ e)) ∙ after-after (take i s) (get_or s i 0 ∷ []) (cut_at mark (drop (i + 1) s)) ∙ ap (λ l. option_map (after l) (cut_at mark (drop (i + 1) s))) (sym (take_more s i 0 h)))
+cut-from : (mark : ℕ) (done s : List ℕ) → option_map (after done) (cut_at mark s) ≡ option_map (parted (done ++ s)) (position_from (λ b. eqb b mark) (length done) s)
+unfolding cut_at
+cut-from mark done [] = refl
+cut-from mark done (b ∷ bs) = go (eqb b mark) (after-after done (b ∷ []) (cut_at mark bs) ∙ cut-from mark (done ++ b ∷ []) bs ∙ ap₂ (λ l n. option_map (parted l) (position_from (λ b. eqb b mark) n bs)) (append_assoc done (b ∷ []) bs) (length-append done (b ∷ [])))
+  where
+    go : (t : Bool) → option_map (after done) (option_map (after (b ∷ [])) (cut_at mark bs)) ≡ option_map (parted (done ++ b ∷ bs)) (position_from (λ b. eqb b mark) (length done + 1) bs) → option_map (after done) (cond t (Some ([], bs)) (option_map (after (b ∷ [])) (cut_at mark bs))) ≡ option_map (parted (done ++ b ∷ bs)) (cond t (Some (length done)) (position_from (λ b. eqb b mark) (length done + 1) bs))
+    go true more = ap₂ (λ x y. Some (x, y)) (append-nil done ∙ sym (take-append_seam done (b ∷ bs))) (sym (drop-append-add done (b ∷ bs) 1))
+    go false more = more
 
-  pub cut_all : length s ≤ i → option_map (after (take i s)) (cut_at mark (drop i s)) ≡ None
-  unfolding cut_at
-  cut_all h = ap (option_map (after (take i s))) (at_drop_all (cut_at mark) s i h)
+pub cut-position : (mark : ℕ) (s : List ℕ) → cut_at mark s ≡ option_map (parted s) (position (λ b. eqb b mark) s)
+cut-position mark s = sym (cut-none (cut_at mark s)) ∙ cut-from mark [] s ∙ ap (option_map (parted s)) (sym (position_from-zero (λ b. eqb b mark) s))

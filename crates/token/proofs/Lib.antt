@@ -1,4 +1,3 @@
-pub mod Adding
 pub mod Back
 pub mod BackBytes
 pub mod Cuts
@@ -8,3 +7,4 @@ pub mod Scan
 pub mod Sound
 pub mod Unquote
 pub mod Whole
+pub mod Hex

@@ -1,5 +1,5 @@
 -- The words of a line, one byte on.
-use Rattle.std.proofs.Common.{◌≡◌, ℕ, ◌+◌, ◌-◌, ◌<◌, ◌≤◌, true, false, eqb, List, [], ◌∷◌, ◌++◌, length, get_or, take, drop, Some, None, Option, sym, refl, ap, ◌∙◌, append_assoc, arith, length-drop}
+use Rattle.std.proofs.Common.{◌≡◌, ℕ, ◌+◌, ◌-◌, ◌<◌, ◌≤◌, true, false, List, [], ◌∷◌, ◌++◌, length, get_or, take, drop, Some, None, Option, sym, refl, ap, ◌∙◌, append_assoc, arith, length-drop}
 use Rattle.std.specs.Option.{option_map}
 use Rattle.std.proofs.lemmas.List.{at_drop_more, at_drop_all, take_more, get_or-drop}
 use Rattle.std.proofs.lemmas.Bool.{cond-true, cond-false, eq-eqb, ne_eqb, true≢false}
@@ -55,17 +55,10 @@ module _ (m : Mode) (w s : List ℕ) (i : ℕ) where
   unfolding words_of
   scan-end h = at_drop_all (words_of m w) s i h
 
-pub begun-some : (w : List ℕ) → false ≡ eqb (length w) 0 → begun w ≡ w ∷ []
-begun-some [] e = absurd (true≢false (sym e))
-begun-some (b ∷ bs) e = refl
-
 -- i bytes of s are read: done are the words before a, where the word under way begins
 pub record Scanned (s : List ℕ) (done : List (List ℕ)) (m : Mode) (a i : ℕ) : Type 0 where
   pub order : a ≤ i
   pub says : led done (words_of m (part s a i) (drop i s)) ≡ words_of Plain [] s
-
-pub scan-none : (s : List ℕ) → Scanned s [] Plain 0 0
-scan-none s = record { order = omega arith; says = led-none _ }
 
 module _ (s : List ℕ) (done : List (List ℕ)) (m : Mode) (a i : ℕ) (so : Scanned s done m a i) where
   pub scan-byte : (done' : List (List ℕ)) (m' : Mode) (a' : ℕ) → i < length s → ends_word m (get_or s i 0) ≡ false → done' ≡ done → m' ≡ after_byte m (get_or s i 0) → a' ≡ a → Scanned s done' m' a' (i + 1)

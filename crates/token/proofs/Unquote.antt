@@ -1,9 +1,7 @@
 -- The bytes between two quotes, one byte on.
-use Rattle.std.proofs.Common.{◌≡◌, ℕ, ◌+◌, ◌<◌, ◌≤◌, false, eqb, List, [], ◌∷◌, ◌++◌, length, get_or, drop, Some, None, Option, sym, refl, ap, ◌∙◌, subst, append_assoc, eq-eqb, false-eqb}
+use Rattle.std.proofs.Common.{◌≡◌, ℕ, ◌+◌, ◌<◌, ◌≤◌, List, [], ◌++◌, length, get_or, drop, Some, None, Option, sym, refl, ap, ◌∙◌, subst, append_assoc}
 use Rattle.std.specs.Option.{option_map, option_to_list}
 use Rattle.std.proofs.lemmas.List.{at_drop_more, at_drop_all}
-use Rattle.std.proofs.lemmas.Bool.{cond-true}
-use Rattle.token.specs.Bytes.{opened_of}
 use Rattle.token.specs.declared.quote.Quote.{Quote}
 use Rattle.token.specs.declared.quote.Quote.TheVariants.{Body, Escape, High, Low, Closed}
 use Rattle.token.specs.Quotes.{Small, step_of, told, finished, unquote_of}
@@ -32,9 +30,6 @@ pub record Told (s done : List ℕ) (q : Quote) (i : ℕ) : Type 0 where
   pub small : Small q
   pub says : first done (unquote_of q (drop i s)) ≡ unquote_of Body s
 
-pub told_none : (s : List ℕ) → Told s [] Body 0
-told_none s = record { small = tt; says = first-none _ }
-
 module _ (s done : List ℕ) (q : Quote) (i : ℕ) (so : Told s done q i) where
   pub told-bad : i < length s → step_of q (get_or s i 0) ≡ None → unquote_of Body s ≡ None
   unfolding unquote_of
@@ -54,7 +49,3 @@ module _ (s done : List ℕ) (q : Quote) (i : ℕ) (so : Told s done q i) where
   pub told-all : length s ≤ i → unquote_of Body s ≡ first done (finished q)
   unfolding unquote_of
   told-all h = sym so.says ∙ ap (first done) (at_drop_all (unquote_of q) s i h)
-
-pub opens : (w : List ℕ) → false ≡ eqb (length w) 0 → get_or w 0 0 ≡ 34 → opened_of w ≡ Some (drop 1 w)
-opens [] h e = absurd (false-eqb _ 0 h refl)
-opens (b ∷ bs) h e = cond-true _ _ _ (eq-eqb b 34 e)

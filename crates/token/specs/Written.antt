@@ -1,10 +1,6 @@
 -- How bytes are written.
-use Rattle.std.specs.Prelude.{◌≡◌, ℕ, ◌+◌, ◌-◌, ◌/◌, ◌%◌, cond, ◌&&◌, ◌||◌, List, [], ◌∷◌, ◌++◌, Result, OnOk, ◌==◌, nat_le, nat_lt}
+use Rattle.std.specs.Prelude.{ℕ, ◌+◌, ◌-◌, ◌/◌, ◌%◌, cond, ◌&&◌, ◌||◌, List, [], ◌∷◌, ◌++◌, ◌==◌, nat_le, nat_lt}
 use Rattle.std.specs.List.{flat_map}
-
--- more is added at the end, unless memory is wanting
-abbrev pub Adds : {X Y : Type 0} → List ℕ → List ℕ → Result X Y → List ℕ → Type 0
-Adds before more r after = OnOk r (after ≡ before ++ more)
 
 abbrev pub hex_digit : ℕ → ℕ
 hex_digit n = cond (nat_lt n 10) (48 + n) (97 + (n - 10))

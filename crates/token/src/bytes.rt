@@ -36,6 +36,7 @@ fn unquote(heap: Global, text: &[u8]) -> Result<Vec<u8>, Fault>
 }
 
 // The bytes, so many times.
+#[tactic(auto, unfolding(crate::specs::Bytes::times_of))]
 fn several(heap: Global, times: u32, once: &[u8]) -> Result<Vec<u8>, Fault>
     ensures { Reads vec_items result (repeat_of times (Some once.now)) }
 {
@@ -64,10 +65,10 @@ fn repeated(heap: Global, times: u32, text: &[u8]) -> Result<Vec<u8>, Fault>
 fn opened(word: &[u8]) -> Option<&[u8]>
     ensures { option_map (λ x. x.now) result ≡ opened_of word.now }
 {
-    if word.is_empty() || word[0] != b'"' {
-        return None;
+    match word {
+        [b'"', text @ ..] => Some(text),
+        _ => None,
     }
-    Some(&word[1..word.len()])
 }
 
 // The bytes that the word stands for.
@@ -77,14 +78,8 @@ pub fn bytes(heap: Global, word: &[u8]) -> Result<Vec<u8>, Fault>
     if let Some(text) = opened(word) {
         return repeated(heap, 1, text);
     }
-    let Some((count, quoted)) = cut(word, b'*') else {
-        return Err(Fault::Bad);
-    };
-    let Some(times) = number(count, 1, 65535) else {
-        return Err(Fault::Bad);
-    };
-    let Some(text) = opened(quoted) else {
-        return Err(Fault::Bad);
-    };
+    let (count, quoted) = cut(word, b'*').ok_or(Fault::Bad)?;
+    let times = number(count, 1, 65535).ok_or(Fault::Bad)?;
+    let text = opened(quoted).ok_or(Fault::Bad)?;
     repeated(heap, times, text)
 }

@@ -14,6 +14,7 @@ pub enum Quote {
     Closed,
 }
 
+// Kept: the library reads a digit of a char as a u32, and two casts are no plainer.
 fn hex(byte: u8) -> Option<u8>
     ensures { result ≡ hex_of byte }
 {

@@ -12,12 +12,8 @@ use std::alloc::{AllocError, Global};
 pub fn cut(bytes: &[u8], mark: u8) -> Option<(&[u8], &[u8])>
     ensures { option_map pair_now result ≡ cut_at mark bytes.now }
 {
-    for (i, b) in bytes.iter().enumerate() {
-        if *b == mark {
-            return Some((&bytes[0..i], &bytes[i + 1..bytes.len()]));
-        }
-    }
-    None
+    let at = bytes.iter().position(|b| *b == mark)?;
+    Some((&bytes[..at], &bytes[at + 1..]))
 }
 
 // One word more, unless it is empty.
@@ -51,6 +47,6 @@ pub fn words<'a>(heap: Global, line: &'a [u8]) -> Result<Vec<&'a [u8]>, Fault>
     if mode != Mode::Plain {
         return Err(Fault::Bad);
     }
-    add(&mut out, &line[start..line.len()])?;
+    add(&mut out, &line[start..])?;
     Ok(out)
 }

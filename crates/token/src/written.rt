@@ -1,51 +1,38 @@
-// Numbers and bytes as the words of a script.
-ghost use Rattle.std.specs.Prelude.{◌≡◌, ◌<◌, [], ◌∷◌, ◌++◌, decimal};
-ghost use Rattle.token.specs.Written.{Adds, escape_of, escapes_of, hex_digit, quoted_of};
+// Bytes as a script has them, between quotes.
+ghost use Rattle.std.specs.Prelude.{Some};
+ghost use Rattle.token.specs.Written.{escape_of, quoted_of};
 
-use std::alloc::{AllocError, Global};
+use std::fmt;
 
-pub fn write_number(heap: Global, out: &mut Vec<u8>, number: u32) -> Result<(), AllocError>
-    ensures { Adds out.old.items (decimal number) result out.new.items }
-{
-    let digits = number.to_string(heap)?;
-    out.extend_from_slice(digits.as_bytes())
-}
+// A byte between quotes: itself where it can be.
+#[derive(Drop)]
+struct Escaped(u8);
 
-fn hex_digit(value: u8) -> u8
-    requires { value < 16 }
-    ensures { result ≡ hex_digit value }
-{
-    if value < 10 {
-        b'0' + value
-    } else {
-        b'a' + (value - 10)
+impl fmt::Display for Escaped {
+    ghost output = { λ e. Some (escape_of e.0) };
+
+    fn fmt<W: fmt::Write>(&self, f: &mut fmt::Formatter<W>) -> fmt::Result {
+        let byte = self.0;
+        match byte {
+            b'"' | b'\\' => write!(f, "\\{}", char::from(byte)),
+            b' '..=b'~' => write!(f, "{}", char::from(byte)),
+            _ => write!(f, "\\x{byte:02x}"),
+        }
     }
 }
 
-fn escape(out: &mut Vec<u8>, byte: u8) -> Result<(), AllocError>
-    ensures { Adds out.old.items (escape_of byte) result out.new.items }
-{
-    match byte {
-        b'"' | b'\\' => out.extend_from_slice(&[b'\\', byte]),
-        b' '..=b'~' => out.extend_from_slice(&[byte]),
-        _ => out.extend_from_slice(&[b'\\', b'x', hex_digit(byte / 16), hex_digit(byte % 16)]),
-    }
-}
+#[derive(Clone, Copy)]
+pub struct Quoted<'a>(pub &'a [u8]);
 
-fn escapes(out: &mut Vec<u8>, bytes: &[u8]) -> Result<(), AllocError>
-    ensures { Adds out.old.items (escapes_of bytes.now) result out.new.items }
-{
-    for b in bytes {
-        escape(out, *b)?;
-    }
-    Ok(())
-}
+impl fmt::Display for Quoted<'_> {
+    ghost output = { λ q. Some (quoted_of q.0.now) };
 
-pub fn write_bytes(out: &mut Vec<u8>, bytes: &[u8]) -> Result<(), AllocError>
-    ensures { Adds out.old.items (quoted_of bytes.now) result out.new.items }
-{
-    out.extend_from_slice(b"\"")?;
-    escapes(out, bytes)?;
-    out.extend_from_slice(b"\"")?;
-    Ok(())
+    fn fmt<W: fmt::Write>(&self, f: &mut fmt::Formatter<W>) -> fmt::Result {
+        write!(f, "\"")?;
+        for b in self.0 {
+            let escaped = Escaped(*b);
+            write!(f, "{escaped}")?;
+        }
+        write!(f, "\"")
+    }
 }

@@ -1,13 +1,9 @@
-use Rattle.std.proofs.Common.{◌++◌, Some, vec_items, sym, ap, ◌∙◌, subst, append-nil}
+use Rattle.std.proofs.Common.{◌++◌, Some, vec_items, sym, ap, ◌∙◌, append-nil}
 use Rattle.std.specs.Option.{option_to_list}
 use Rattle.token.specs.Quotes.{finished}
-use Rattle.token.specs.declared.quote.Quote.TheVariants.{Body}
-use Rattle.token.proofs.Unquote.{Told, first, told_none, told-bad, told_more, told-all, open-end}
+use Rattle.token.proofs.Unquote.{first, told-bad, told_more, told-all, open-end}
 use Rattle.token.proofs.bytes.unquote.Goals as goal
 use Rattle.token.proofs.bytes.unquote.Goals.{in-Some-byte+in_ok-push, in_default-byte}
-
-pub loop-b-init : goal.loop-b-init
-loop-b-init c = subst (λ l. Told c.args.text.now l Body 0) (sym c.new-out.ensures.items) (told_none _)
 
 pub returns-in_default : goal.returns-in_default
 returns-in_default c = told-bad _ _ _ _ c.loop-b.invariant c.loop-b-test.true (sym c.in_default.ensures.value)

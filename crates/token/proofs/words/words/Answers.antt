@@ -1,12 +1,8 @@
-use Rattle.std.proofs.Common.{sym, ap, ◌∙◌, subst, arith, rules}
-use Rattle.token.specs.Words.{listed, nows}
-use Rattle.token.specs.declared.mode.Mode.TheVariants.{Plain}
-use Rattle.token.proofs.Scan.{Scanned, scan-none, scan-byte, scan-word, scan-rest, scan-open, scan-all}
+use Rattle.std.proofs.Common.{sym, ap, ◌∙◌, arith, rules}
+use Rattle.token.specs.Words.{listed}
+use Rattle.token.proofs.Scan.{scan-byte, scan-word, scan-rest, scan-open, scan-all}
 use Rattle.token.proofs.words.words.Goals as goal
 use Rattle.token.proofs.words.words.Goals.{then-ends_word+in_ok-add+else-b-eq35, else-ends_word}
-
-pub loop-i-init : goal.loop-i-init
-loop-i-init c = subst (λ l. Scanned c.args.line.now (nows l) Plain 0 0) (sym c.new-out.ensures.items) (scan-none _)
 
 pub returns-then-b-eq35 : goal.returns-then-b-eq35
 returns-then-b-eq35 c = scan-rest _ _ _ _ _ c.loop-i.invariant _ c.loop-i-test.true (sym c.if-ends_word.ensures) c.if-b-eq35.true c.in_ok-add.ensures
