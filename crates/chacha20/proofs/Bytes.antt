@@ -1,19 +1,18 @@
 -- The bytes of words, and a text that is xored with them part by part.
-use Rattle.std.proofs.Common.{◌≡◌, ℕ, ◌+◌, ◌-◌, ◌*◌, ◌/◌, ◌%◌, ◌^◌, ◌<◌, ◌≤◌, ◌⊎◌, List, [], ◌∷◌, ◌++◌, length, get_or, take, drop, sym, refl, ap, ◌∙◌, inl, inr, arith, w32, Fits}
-use borrow.Rule.Slice.PartMut.{put_mid}
+use Rattle.std.proofs.Common.{◌≡◌, ℕ, ◌+◌, ◌-◌, ◌*◌, ◌/◌, ◌%◌, ◌^◌, ◌<◌, ◌≤◌, ◌⊎◌, List, ◌++◌, length, get_or, take, drop, sym, refl, ap, ◌∙◌, subst, inl, inr, arith, w32, Fits}
 use lib.Bits.{bit_xor}
 use lib.Lanes.{Each1, chunk, digits_l, number_l, put_chunk, zip2}
 use Rattle.std.proofs.lemmas.Simd.{below_from_Fits, get_or_narrower, get_or-zip2, length-zip2, put_chunk_whole}
-use Rattle.std.proofs.lemmas.List.{drop-drop, get_or_append_left, get_or-append_right, get_or-drop, get_or-take, length-append, length-drop, length-take-le, take_all}
+use Rattle.std.proofs.lemmas.List.{get_or_append_left, get_or-append_right, length-append, take-append-drop, take_all}
 use Rattle.std.proofs.lemmas.Bool.{cases_lt}
 use Rattle.chacha20.specs.Block.{ByteAt}
 use Rattle.chacha20.specs.Cipher.{Xored}
 
 -- a byte of four words
-pub byte-is : (ws : List ℕ) (i : ℕ) → i < 16 → Each1 (Fits w32) ws
+byte_is : (ws : List ℕ) (i : ℕ) → i < 16 → Each1 (Fits w32) ws
     → get_or (digits_l 256 16 (number_l 4294967296 ws)) i 0 ≡ ByteAt ws i
 unfolding ByteAt
-byte-is ws i h fits =
+byte_is ws i h fits =
     let e : i ≡ 4 * (i / 4) + i % 4 = omega arith in
     ap (λ (k : ℕ). get_or (digits_l 256 16 (number_l 4294967296 ws)) k 0) e
     ∙ get_or_narrower 4294967296 4 256 16 ws (i / 4) (i % 4) refl (below_from_Fits w32 ws fits) (omega arith) (omega arith)
@@ -32,132 +31,90 @@ byte-back a r i k la ek =
     ap (λ (w : ℕ). w / 256 ^ (k % 4) % 256) (get_or-append_right a r 4 (k / 4) 0 la (omega arith) ∙ ap (λ (n : ℕ). get_or r n 0) p)
     ∙ ap (λ (n : ℕ). get_or r (i / 4) 0 / 256 ^ n % 256) q
 
--- the words of one lane of four vectors, as two interleavings leave them
-pub row : (a b c d : List ℕ) (i j : ℕ) → length a ≡ 4 → length b ≡ 4 → i < 4 → j ≡ 4 + i
-    → (get_or (a ++ c) i 0 ∷ get_or (b ++ d) i 0 ∷ get_or (a ++ c) j 0 ∷ get_or (b ++ d) j 0 ∷ [])
-    ≡ (get_or a i 0 ∷ get_or b i 0 ∷ get_or c i 0 ∷ get_or d i 0 ∷ [])
-row a b c d i j la lb h ej =
-    let n : j - 4 ≡ i = omega arith in
-    let ea : get_or (a ++ c) i 0 ≡ get_or a i 0 = get_or_append_left a c 0 i (omega arith) in
-    let eb : get_or (b ++ d) i 0 ≡ get_or b i 0 = get_or_append_left b d 0 i (omega arith) in
-    let ec : get_or (a ++ c) j 0 ≡ get_or c i 0 =
-    get_or-append_right a c 4 j 0 la (omega arith) ∙ ap (λ (k : ℕ). get_or c k 0) n in
-    let ed : get_or (b ++ d) j 0 ≡ get_or d i 0 =
-    get_or-append_right b d 4 j 0 lb (omega arith) ∙ ap (λ (k : ℕ). get_or d k 0) n in
-    λ x. ea x ∷ eb x ∷ ec x ∷ ed x ∷ []
-
--- a part that is written over: what stands below it, in it, and above it
-pub spliced-below : (t z r : List ℕ) (at k : ℕ) → at ≤ length t → k < at → get_or (take at t ++ (z ++ r)) k 0 ≡ get_or t k 0
-spliced-below t z r at k l h =
-    let lt : length (take at t) ≡ at = length-take-le at t l in
-    get_or_append_left (take at t) (z ++ r) 0 k (omega arith) ∙ get_or-take at t k 0 h
-
-pub spliced-inside : (t z r : List ℕ) (at k : ℕ) → at ≤ length t → at ≤ k → k < at + length z
-    → get_or (take at t ++ (z ++ r)) k 0 ≡ get_or z (k - at) 0
-spliced-inside t z r at k l ge lt =
-    get_or-append_right (take at t) (z ++ r) at k 0 (length-take-le at t l) ge
-    ∙ get_or_append_left z r 0 (k - at) (omega arith)
-
-pub spliced-above : (t z : List ℕ) (at n k : ℕ) → at ≤ length t → length z ≡ n → at + n ≤ k
-    → get_or (take at t ++ (z ++ drop n (drop at t))) k 0 ≡ get_or t k 0
-spliced-above t z at n k l lz ge =
-    let e : at + n + (k - at - n) ≡ k = omega arith in
-    get_or-append_right (take at t) (z ++ drop n (drop at t)) at k 0 (length-take-le at t l) (omega arith)
-    ∙ get_or-append_right z (drop n (drop at t)) n (k - at) 0 lz (omega arith)
-    ∙ ap (λ (v : List ℕ). get_or v (k - at - n) 0) (drop-drop n at t)
-    ∙ get_or-drop (at + n) t (k - at - n) 0
-    ∙ ap (λ (i : ℕ). get_or t i 0) e
-
-pub spliced-size : (t z : List ℕ) (at n : ℕ) → length z ≡ n → at + n ≤ length t
-    → length (take at t ++ (z ++ drop n (drop at t))) ≡ length t
-spliced-size t z at n lz l =
-    length-append (take at t) (z ++ drop n (drop at t))
-    ∙ omega (arith, length-take-le at t (omega arith), length-append z (drop n (drop at t)), length-drop n (drop at t), length-drop at t)
-
--- sixteen bytes that are read, xored and written back
-pub xored-is : (t bs : List ℕ) (at n : ℕ) → length bs ≡ 16 → at + 16 ≤ length t → n ≡ 16
-    → Xored t (λ i. get_or bs i 0) at 16
-    (put_mid at n t (put_chunk 0 (take n (drop at t)) (zip2 bit_xor (chunk 0 16 (take n (drop at t))) bs)))
-xored-is t bs at n lb l en =
-    let p : List ℕ = take n (drop at t) in
-    let ld : length (drop at t) ≡ length t - at = length-drop at t in
-    let lp : length p ≡ 16 = length-take-le n (drop at t) (omega arith) ∙ en in
-    let ep : chunk 0 16 p ≡ p = take_all 16 p (omega arith) in
-    let z : List ℕ = zip2 bit_xor p bs in
-    let lz : length z ≡ n = length-zip2 bit_xor p bs (omega arith) ∙ omega arith in
-    let ez : put_chunk 0 p (zip2 bit_xor (chunk 0 16 p) bs) ≡ z =
-    ap (λ (v : List ℕ). put_chunk 0 p (zip2 bit_xor v bs)) ep ∙ put_chunk_whole p z (omega arith) in
-    let u : List ℕ = take at t ++ (z ++ drop n (drop at t)) in
-    let eu : put_mid at n t (put_chunk 0 p (zip2 bit_xor (chunk 0 16 p) bs)) ≡ u = ap (put_mid at n t) ez in
+-- sixteen bytes that are read, xored with those of four words and written back
+pub xored_is : (t ws : List ℕ) → length t ≡ 16 → Each1 (Fits w32) ws
+    → Xored t (ByteAt ws) (put_chunk 0 t (zip2 bit_xor (chunk 0 16 t) (digits_l 256 16 (number_l 4294967296 ws))))
+xored_is t ws lt fits =
+    let bs : List ℕ = digits_l 256 16 (number_l 4294967296 ws) in
+    let lb : length bs ≡ 16 = refl in
+    let et : chunk 0 16 t ≡ t = take_all 16 t (omega arith) in
+    let lz : length (zip2 bit_xor t bs) ≡ length t = length-zip2 bit_xor t bs (omega arith) in
+    let eu : put_chunk 0 t (zip2 bit_xor (chunk 0 16 t) bs) ≡ zip2 bit_xor t bs =
+    ap (λ (v : List ℕ). put_chunk 0 t (zip2 bit_xor v bs)) et ∙ put_chunk_whole t (zip2 bit_xor t bs) (sym lz) in
     record {
-      size = ap length eu ∙ spliced-size t z at n lz (omega arith);
-      inside = λ k ge lt.
-          let e : at + (k - at) ≡ k = omega arith in
-          ap (λ (v : List ℕ). get_or v k 0) eu
-          ∙ spliced-inside t z (drop n (drop at t)) at k (omega arith) ge (omega arith)
-          ∙ get_or-zip2 bit_xor p bs (k - at) 0 0 0 (omega arith) (omega arith)
-          ∙ ap (λ (x : ℕ). bit_xor x (get_or bs (k - at) 0))
-          (get_or-take n (drop at t) (k - at) 0 (omega arith) ∙ get_or-drop at t (k - at) 0 ∙ ap (λ (i : ℕ). get_or t i 0) e);
-      below = λ k lt.
-          ap (λ (v : List ℕ). get_or v k 0) eu ∙ spliced-below t z (drop n (drop at t)) at k (omega arith) lt;
-      above = λ k ge. ap (λ (v : List ℕ). get_or v k 0) eu ∙ spliced-above t z at n k (omega arith) lz (omega arith);
+      size = ap length eu ∙ lz;
+      byte = λ k h.
+          ap (λ (v : List ℕ). get_or v k 0) eu ∙ get_or-zip2 bit_xor t bs k 0 0 0 h (omega arith)
+          ∙ ap (bit_xor (get_or t k 0)) (byte_is ws k (omega arith) fits);
     }
 
 -- another name for the same bytes
-pub xored-as : (t u : List ℕ) (s r : ℕ → ℕ) (at n : ℕ) → Xored t s at n u → ((i : ℕ) → i < n → s i ≡ r i) → Xored t r at n u
-xored-as t u s r at n x e =
-    record {
-      size = x.size;
-      inside = λ k ge lt. x.inside k ge lt ∙ ap (bit_xor (get_or t k 0)) (e (k - at) (omega arith));
-      below = x.below;
-      above = x.above;
-    }
-
--- nothing xored
-pub xored-none : (t : List ℕ) (s : ℕ → ℕ) (at : ℕ) → Xored t s at 0 t
-xored-none t s at =
-    record
-    { size = refl; inside = λ k ge lt. absurd (omega arith); below = λ k lt. refl; above = λ k ge. refl }
+pub xored-as : {t u : List ℕ} (s r : ℕ → ℕ) → Xored t s u → ((i : ℕ) → i < length t → s i ≡ r i) → Xored t r u
+xored-as {t = t} s r x e =
+    record { size = x.size; byte = λ k h. x.byte k h ∙ ap (bit_xor (get_or t k 0)) (e k h) }
 
 -- one part after another
-pub xored-join : (t u v : List ℕ) (s r : ℕ → ℕ) (at n bt m k : ℕ) → Xored t s at n u → Xored u r bt m v → bt ≡ at + n
-    → k ≡ n + m
-    → ((i : ℕ) → i < m → r i ≡ s (n + i))
-    → Xored t s at k v
-xored-join t u v s r at n bt m k x y eb ek es =
+pub xored-append : {t u v w : List ℕ} (s r : ℕ → ℕ) (n : ℕ) → length t ≡ n → Xored t s u → Xored v r w
+    → ((i : ℕ) → i < length v → r i ≡ s (n + i))
+    → Xored (t ++ v) s (u ++ w)
+xored-append {t = t} {u = u} {v = v} {w = w} s r n lt x y e =
     record {
-      size = y.size ∙ x.size;
-      inside = λ i ge lt. inside i ge lt (cases_lt i bt);
-      below = λ i lt. y.below i (omega arith) ∙ x.below i lt;
-      above = λ i ge. y.above i (omega arith) ∙ x.above i (omega arith);
+      size = length-append u w ∙ omega (arith, x.size, y.size, length-append t v);
+      byte = λ k h. byte k h (cases_lt k n);
     }
   where
-    inside : (i : ℕ) → at ≤ i → i < at + k → (i < bt) ⊎ (bt ≤ i) → get_or v i 0 ≡ bit_xor (get_or t i 0) (s (i - at))
-    inside i ge lt (inl l) = y.below i l ∙ x.inside i ge (omega arith)
-    inside i ge lt (inr l) =
-        let e : n + (i - bt) ≡ i - at = omega arith in
-        y.inside i l (omega arith)
-        ∙ ap (λ (w : ℕ). bit_xor w (r (i - bt))) (x.above i (omega arith))
-        ∙ ap (bit_xor (get_or t i 0)) (es (i - bt) (omega arith) ∙ ap s e)
+    byte : (k : ℕ) → k < length (t ++ v) → (k < n) ⊎ (n ≤ k) → get_or (u ++ w) k 0 ≡ bit_xor (get_or (t ++ v) k 0) (s k)
+    byte k h (inl l) =
+        get_or_append_left u w 0 k (omega (arith, x.size)) ∙ x.byte k (omega arith)
+        ∙ ap (λ (b : ℕ). bit_xor b (s k)) (sym (get_or_append_left t v 0 k (omega arith)))
+    byte k h (inr l) =
+        let j : n + (k - n) ≡ k = omega arith in
+        let below : k - n < length v = omega (arith, length-append t v) in
+        get_or-append_right u w n k 0 (omega (arith, x.size)) l ∙ y.byte (k - n) below
+        ∙ ap (λ (b : ℕ). bit_xor b (r (k - n))) (sym (get_or-append_right t v n k 0 lt l))
+        ∙ ap (bit_xor (get_or (t ++ v) k 0)) (e (k - n) below ∙ ap s j)
 
--- four times sixteen bytes
-pub xored-block : (t u v w z a b c d : List ℕ) (at : ℕ) → length a ≡ 4 → length b ≡ 4 → length c ≡ 4 → Xored t (ByteAt a) at 16 u
-    → Xored u (ByteAt b) (at + 16) 16 v
-    → Xored v (ByteAt c) (at + 32) 16 w
-    → Xored w (ByteAt d) (at + 48) 16 z
-    → Xored t (ByteAt (a ++ (b ++ (c ++ d)))) at 64 z
-xored-block t u v w z a b c d at la lb lc xa xb xc xd =
-    let s : ℕ → ℕ = ByteAt (a ++ (b ++ (c ++ d))) in
-    let x1 : Xored t s at 16 u = xored-as t u (ByteAt a) s at 16 xa (λ i h. sym (byte-front a (b ++ (c ++ d)) i la h)) in
-    let x2 : Xored t s at 32 v =
-    xored-join t u v s (ByteAt b) at 16 (at + 16) 16 32 x1 xb refl refl
-    (λ i h. sym (byte-back a (b ++ (c ++ d)) i (16 + i) la refl ∙ byte-front b (c ++ d) i lb h)) in
-    let x3 : Xored t s at 48 w =
-    xored-join t v w s (ByteAt c) at 32 (at + 32) 16 48 x2 xc refl refl
+-- a text in four parts
+pub parts-are : {t f b p q x y : List ℕ} (m n : ℕ) → f ≡ take m t → b ≡ drop m t → p ≡ take n f → q ≡ drop n f → x ≡ take n b
+    → y ≡ drop n b
+    → (p ++ q) ++ (x ++ y) ≡ t
+parts-are {t = t} {f = f} {b = b} m n ef eb ep eq ex ey =
+    let e : take n f ++ drop n f ≡ f = take-append-drop n f in
+    let g : take n b ++ drop n b ≡ b = take-append-drop n b in
+    let h : take m t ++ drop m t ≡ t = take-append-drop m t in
+    cc
+
+-- four parts of n bytes
+pub xored-four : {t p q x y u v w z : List ℕ} (s a b c d : ℕ → ℕ) (n : ℕ) → (p ++ q) ++ (x ++ y) ≡ t
+    → length p ≡ n → length q ≡ n → length x ≡ n → length y ≡ n
+    → Xored p a u → Xored q b v → Xored x c w → Xored y d z
+    → ((i : ℕ) → i < n → a i ≡ s i)
+    → ((i : ℕ) → i < n → b i ≡ s (n + i))
+    → ((i : ℕ) → i < n → c i ≡ s (2 * n + i))
+    → ((i : ℕ) → i < n → d i ≡ s (3 * n + i))
+    → Xored t s ((u ++ v) ++ (w ++ z))
+xored-four {p = p} {q = q} {u = u} {v = v} {w = w} {z = z} s a b c d n et lp lq lx ly xa xb xc xd ea eb ec ed =
+    let back : ℕ → ℕ = λ i. s (2 * n + i) in
+    subst (λ k. Xored k s ((u ++ v) ++ (w ++ z))) et
+    (xored-append s back (2 * n) (omega (arith, length-append p q))
+    (xored-append s b n lp (xored-as a s xa (λ i h. ea i (omega arith))) xb (λ i h. eb i (omega arith)))
+    (xored-append back d n lx (xored-as c back xc (λ i h. ec i (omega arith))) xd
+    (λ i h. ed i (omega arith) ∙ ap s (let j : 3 * n + i ≡ 2 * n + (n + i) = omega arith in j)))
+    (λ i h. refl))
+
+-- four times four words
+pub xored-words : {t p q x y u v w z : List ℕ} (a b c d : List ℕ) → length a ≡ 4 → length b ≡ 4 → length c ≡ 4
+    → (p ++ q) ++ (x ++ y) ≡ t
+    → length p ≡ 16 → length q ≡ 16 → length x ≡ 16 → length y ≡ 16
+    → Xored p (ByteAt a) u → Xored q (ByteAt b) v → Xored x (ByteAt c) w → Xored y (ByteAt d) z
+    → Xored t (ByteAt (a ++ (b ++ (c ++ d)))) ((u ++ v) ++ (w ++ z))
+xored-words a b c d la lb lc et lp lq lx ly xa xb xc xd =
+    xored-four (ByteAt (a ++ (b ++ (c ++ d)))) (ByteAt a) (ByteAt b) (ByteAt c) (ByteAt d) 16 et lp lq lx ly xa xb xc xd
+    (λ i h. sym (byte-front a (b ++ (c ++ d)) i la h))
+    (λ i h. sym (byte-back a (b ++ (c ++ d)) i (16 + i) la refl ∙ byte-front b (c ++ d) i lb h))
     (λ i h.
     sym (byte-back a (b ++ (c ++ d)) (16 + i) (32 + i) la (omega arith) ∙ byte-back b (c ++ d) i (16 + i) lb refl
-    ∙ byte-front c d i lc h)) in
-    xored-join t w z s (ByteAt d) at 48 (at + 48) 16 64 x3 xd refl refl
+    ∙ byte-front c d i lc h))
     (λ i h.
     sym (byte-back a (b ++ (c ++ d)) (32 + i) (48 + i) la (omega arith)
     ∙ byte-back b (c ++ d) (16 + i) (32 + i) lb (omega arith)

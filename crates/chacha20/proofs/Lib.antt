@@ -1,4 +1,3 @@
-pub mod States
 pub mod Vectors
 pub mod Bytes
 pub mod Streams

@@ -1,90 +1,75 @@
--- A whole text, with its last bytes by way of a buffer.
-use Rattle.std.proofs.Common.{◌≡◌, ℕ, ◌+◌, ◌-◌, ◌*◌, ◌<◌, ◌≤◌, List, ◌++◌, length, get_or, take, drop, sym, ap, ◌∙◌, arith}
+-- A whole text.
+use Rattle.std.proofs.Common.{◌≡◌, ℕ, ◌+◌, ◌-◌, ◌*◌, ◌<◌, ◌≤◌, List, ◌++◌, length, get_or, take, drop, sym, ap, ◌∙◌, refl, subst, arith}
+use borrow.Rule.Slice.PartMut.{put_mid}
 use lib.Bits.{bit_xor, xor_assoc, xor_self, xor_zero_r}
+use Rattle.std.proofs.Math.Seq.{take-add, take-append-add, drop-append-add, drop-append_seam}
 use Rattle.std.proofs.lemmas.List.FromFn.{get_or-map-range_with_len, length-map-range_with_len}
-use Rattle.std.proofs.lemmas.List.{ext_get_or, get_or_append_left, get_or-drop, get_or_past, get_or-take, length-append, length-drop, length-take-le}
+use Rattle.std.proofs.lemmas.List.{drop-drop, ext_get_or, length-append, length-drop, length-take-le, take_all, take_at}
 use Rattle.chacha20.specs.Block.{Init}
 use Rattle.chacha20.specs.Cipher.{ChaCha20, Stream, Undoes, Xored}
 use Rattle.chacha20.specs.Lanes.{Advance, Keyed}
-use Rattle.chacha20.specs.declared.block.State.{State}
-use Rattle.chacha20.proofs.Bytes.{spliced-below, spliced-inside, xored-join}
+use Rattle.chacha20.specs.declared.state.State.{State}
+use Rattle.chacha20.proofs.Bytes.{xored-append}
 use Rattle.chacha20.proofs.Streams.{keyed-advanced, keyed-is}
 
--- the last bytes of t, from at on: copied into a buffer, xored there and copied back
-pub last-is : (t p r b c q u : List ℕ) (s : ℕ → ℕ) (at n m k : ℕ) → at ≤ length t → length t ≤ at + n → m ≡ length t - at
-    → k ≡ length t - at
-    → p ≡ take m (drop at t)
-    → b ≡ p ++ r
-    → Xored b s 0 n c
-    → q ≡ take k c
-    → u ≡ take at t ++ (q ++ drop (at + length q) t)
-    → Xored t s at (length t - at) u
-last-is t p r b c q u s at n m k l ln em ek ep eb x eq eu =
-    let ld : length (drop at t) ≡ length t - at = length-drop at t in
-    let lp : length p ≡ k = ap length ep ∙ length-take-le m (drop at t) (omega arith) ∙ omega arith in
-    let lb : length b ≡ length p + length r = ap length eb ∙ length-append p r in
-    let lc : length c ≡ length b = x.size in
-    let lq : length q ≡ k = ap length eq ∙ length-take-le k c (omega arith) in
-    let la : length (take at t) ≡ at = length-take-le at t l in
-    let d : List ℕ = drop (at + length q) t in
-    let dd : length d ≡ 0 = length-drop (at + length q) t ∙ omega arith in
-    let lu : length u ≡ length t =
-    ap length eu ∙ length-append (take at t) (q ++ d) ∙ omega (arith, length-append q d) in
-    record {
-      size = lu;
-      inside = λ i ge lt.
-          let j : at + (i - at) ≡ i = omega arith in
-          let h : i - at < k = omega arith in
-          let z : i - at - 0 ≡ i - at = omega arith in
-          ap (λ (v : List ℕ). get_or v i 0) eu ∙ spliced-inside t q d at i l ge (omega arith)
-          ∙ ap (λ (v : List ℕ). get_or v (i - at) 0) eq
-          ∙ get_or-take k c (i - at) 0 h
-          ∙ x.inside (i - at) (omega arith) (omega arith)
-          ∙ ap (λ (w : ℕ). bit_xor (get_or b (i - at) 0) (s w)) z
-          ∙ ap (λ (v : List ℕ). bit_xor (get_or v (i - at) 0) (s (i - at))) eb
-          ∙ ap (λ (w : ℕ). bit_xor w (s (i - at)))
-          (get_or_append_left p r 0 (i - at) (omega arith) ∙ ap (λ (v : List ℕ). get_or v (i - at) 0) ep
-          ∙ get_or-take m (drop at t) (i - at) 0 (omega arith)
-          ∙ get_or-drop at t (i - at) 0
-          ∙ ap (λ (w : ℕ). get_or t w 0) j);
-      below = λ i lt. ap (λ (v : List ℕ). get_or v i 0) eu ∙ spliced-below t q d at i l lt;
-      above = λ i ge. get_or_past u i 0 (omega arith) ∙ sym (get_or_past t i 0 (omega arith));
-    }
+-- the first n bytes are xored, and the others as they were
+pub record XoredTo (t : List ℕ) (s : State ℕ) (n : ℕ) (u : List ℕ) : Type 0 where
+  pub size : length u ≡ length t
+  pub below : Xored (take n t) (Keyed s) (take n u)
+  pub above : drop n u ≡ drop n t
 
--- four blocks more
-pub blocks_more : (t u v : List ℕ) (s r : State) (i at : ℕ) → at ≡ 256 * i → r ≡ Advance (4 * i) s → Xored t (Keyed s) 0 at u
-    → Xored u (Keyed r) at 256 v
-    → Xored t (Keyed s) 0 (256 * (i + 1)) v
-blocks_more t u v s r i at ea er x y =
-    xored-join t u v (Keyed s) (Keyed r) 0 at at 256 (256 * (i + 1)) x y (omega arith) (omega arith)
-    (λ j h.
-    let e : 64 * (4 * i) + j ≡ at + j = omega arith in
-    ap (λ (z : State). Keyed z j) er ∙ keyed-advanced s (4 * i) j ∙ ap (Keyed s) e)
+pub none-is : (t : List ℕ) (s : State ℕ) → XoredTo t s 0 t
+none-is t s = record { size = refl; below = record { size = refl; byte = λ k h. absurd (omega arith) }; above = refl }
 
--- the whole text
-pub blocks-all : (t u v : List ℕ) (s r : State) (i at : ℕ) → at ≡ 256 * i → r ≡ Advance (4 * i) s → at ≤ length t
-    → Xored t (Keyed s) 0 at u
-    → Xored u (Keyed r) at (length u - at) v
-    → Xored t (Keyed s) 0 (length t) v
-blocks-all t u v s r i at ea er l x y =
-    let lu : length u ≡ length t = x.size in
-    xored-join t u v (Keyed s) (Keyed r) 0 at at (length u - at) (length t) x y (omega arith) (omega arith)
-    (λ j h.
-    let e : 64 * (4 * i) + j ≡ at + j = omega arith in
-    ap (λ (z : State). Keyed z j) er ∙ keyed-advanced s (4 * i) j ∙ ap (Keyed s) e)
+-- n bytes more, from the block i on
+pub part_more : {t u z : List ℕ} (s r : State ℕ) (i a n b : ℕ) → a ≡ 64 * i → a + n ≡ b → b ≤ length t → r ≡ Advance i s
+    → XoredTo t s a u
+    → Xored (take n (drop a u)) (Keyed r) z
+    → XoredTo t s b (put_mid a n u z)
+part_more {t = t} {u = u} {z = z} s r i a n b ea eb l er x y =
+    let p : List ℕ = take a u in
+    let q : List ℕ = drop n (drop a u) in
+    let w : List ℕ = p ++ (z ++ q) in
+    let lp : length p ≡ a = length-take-le a u (omega (arith, x.size)) in
+    let lt : length (take a t) ≡ a = length-take-le a t (omega arith) in
+    let ld : length (drop a u) ≡ length u - a = length-drop a u in
+    let lv : length (take n (drop a u)) ≡ n = length-take-le n (drop a u) (omega (arith, x.size)) in
+    let lz : length z ≡ n = y.size ∙ lv in
+    let lw : length w ≡ length p + (length z + length q) = length-append p (z ++ q) ∙ ap (λ k. length p + k) (length-append z q) in
+    let lq : length q ≡ length u - a - n = length-drop n (drop a u) ∙ ap (λ k. k - n) ld in
+    let et : take a t ++ take n (drop a u) ≡ take (a + n) t = ap (λ v. take a t ++ take n v) x.above ∙ sym (take-add a n t) in
+    let eu : p ++ z ≡ take (a + n) w =
+    ap (λ v. p ++ v) (sym (take_at z q n lz)) ∙ sym (take-append-add p (z ++ q) n) ∙ ap (λ k. take (k + n) w) lp in
+    let ed : drop (a + n) w ≡ drop (a + n) t =
+    ap (λ k. drop (k + n) w) (sym lp) ∙ drop-append-add p (z ++ q) n ∙ ap (λ k. drop k (z ++ q)) (sym lz) ∙ drop-append_seam z q
+    ∙ ap (drop n) x.above
+    ∙ drop-drop n a t in
+    let f : (j : ℕ) → j < length (take n (drop a u)) → Keyed r j ≡ Keyed s (a + j) =
+    λ j h. ap (λ k. Keyed k j) er ∙ keyed-advanced s i j ∙ ap (λ k. Keyed s (k + j)) (sym ea) in
+    subst (λ k. XoredTo t s k w) eb
+    (record {
+      size = omega (arith, x.size);
+      below = subst (λ v. Xored v (Keyed s) (take (a + n) w)) et
+          (subst (Xored (take a t ++ take n (drop a u)) (Keyed s)) eu (xored-append (Keyed s) (Keyed r) a lt x.below y f));
+      above = ed;
+    })
+
+-- all of it
+pub whole-is : {t u : List ℕ} (s : State ℕ) (n : ℕ) → length t ≤ n → XoredTo t s n u → Xored t (Keyed s) u
+whole-is {t = t} {u = u} s n l x =
+    subst (λ v. Xored v (Keyed s) u) (take_all n t l)
+    (subst (Xored (take n t) (Keyed s)) (take_all n u (omega (arith, x.size))) x.below)
 
 -- a text that is xored with the key stream is the cipher's
-pub cipher-is : (key : List ℕ) (c : ℕ) (nonce t u : List ℕ) (s : State) → s ≡ Init key c nonce → Xored t (Keyed s) 0 (length t) u
+pub cipher_is : (key : List ℕ) (c : ℕ) (nonce t u : List ℕ) (s : State ℕ) → s ≡ Init key c nonce → Xored t (Keyed s) u
     → u ≡ ChaCha20 key c nonce t
 unfolding ChaCha20
-cipher-is key c nonce t u s es x =
+cipher_is key c nonce t u s es x =
     let f : ℕ → ℕ = λ i. bit_xor (get_or t i 0) (Stream key c nonce i) in
     ext_get_or 0 u (ChaCha20 key c nonce t) (x.size ∙ sym (length-map-range_with_len f 0 (length t)))
     (λ i h.
     let lt : i < length t = omega (arith, x.size) in
-    let z : i - 0 ≡ i = omega arith in
-    x.inside i (omega arith) (omega arith)
-    ∙ ap (bit_xor (get_or t i 0)) (ap (Keyed s) z ∙ ap (λ (y : State). Keyed y i) es ∙ keyed-is key c nonce i)
+    x.byte i lt ∙ ap (bit_xor (get_or t i 0)) (ap (λ (y : State ℕ). Keyed y i) es ∙ keyed-is key c nonce i)
     ∙ sym (get_or-map-range_with_len f 0 (length t) i i 0 lt (omega arith)))
 
 cipher-size : (key : List ℕ) (c : ℕ) (nonce t : List ℕ) → length (ChaCha20 key c nonce t) ≡ length t

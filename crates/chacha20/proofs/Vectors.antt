@@ -3,7 +3,7 @@ use Rattle.std.proofs.Common.{◌≡◌, ℕ, ◌-◌, ◌*◌, ◌/◌, ◌%◌
 use lib.Bits.{bit_or, bit_xor}
 use lib.Lanes.{zip2}
 use Rattle.std.proofs.lemmas.Simd.{get_or-replicate, get_or-zip2, length-zip2}
-use Rattle.chacha20.specs.Words.{◌⊞◌, Quarter, ROTL}
+use Rattle.chacha20.specs.Words.{ROTL}
 
 -- an operator on two vectors of four lanes
 pub lane2 : (f : ℕ → ℕ → ℕ) (a b : List ℕ) (l : ℕ) → length a ≡ 4 → length b ≡ 4 → l < 4
@@ -14,14 +14,14 @@ long2 : (f : ℕ → ℕ → ℕ) (a b : List ℕ) → length a ≡ 4 → length
 long2 f a b la lb = length-zip2 f a b (omega arith) ∙ la
 
 -- a xor and a rotation by shifts
-pub mixed-is : (a b : List ℕ) (n m l : ℕ) → length a ≡ 4 → length b ≡ 4 → l < 4 → m ≡ 32 - n
+pub mixed_is : (a b : List ℕ) (n m l : ℕ) → length a ≡ 4 → length b ≡ 4 → l < 4 → m ≡ 32 - n
     → get_or
     (zip2 bit_or (zip2 (λ x k. (x * 2 ^ k) % 2 ^ 32) (zip2 bit_xor a b) (n ∷ n ∷ n ∷ n ∷ []))
     (zip2 (λ x k. x / 2 ^ k) (zip2 bit_xor a b) (m ∷ m ∷ m ∷ m ∷ [])))
     l
     0
     ≡ ROTL n (bit_xor (get_or a l 0) (get_or b l 0))
-mixed-is a b n m l la lb h em =
+mixed_is a b n m l la lb h em =
     let x : List ℕ = zip2 bit_xor a b in
     let lx : length x ≡ 4 = long2 bit_xor a b la lb in
     let ns : List ℕ = n ∷ n ∷ n ∷ n ∷ [] in
@@ -37,14 +37,3 @@ mixed-is a b n m l la lb h em =
     ∙ ap (λ (k : ℕ). bit_or (up (get_or x l 0) k) (down (get_or x l 0) (get_or ms l 0))) en
     ∙ ap (λ (k : ℕ). bit_or (up (get_or x l 0) n) (down (get_or x l 0) k)) er
     ∙ ap (ROTL n) ex
-
--- the steps of a quarter round
-pub quarter-is : (a b c d a1 d1 c1 b1 a2 d2 c2 b2 : ℕ) → a1 ≡ a ⊞ b → d1 ≡ ROTL 16 (bit_xor d a1) → c1 ≡ c ⊞ d1
-    → b1 ≡ ROTL 12 (bit_xor b c1)
-    → a2 ≡ a1 ⊞ b1
-    → d2 ≡ ROTL 8 (bit_xor d1 a2)
-    → c2 ≡ c1 ⊞ d2
-    → b2 ≡ ROTL 7 (bit_xor b1 c2)
-    → ◌≡◌ {A = ℕ × ℕ × ℕ × ℕ} (a2, b2, c2, d2) (Quarter a b c d)
-unfolding Quarter
-quarter-is a b c d a1 d1 c1 b1 a2 d2 c2 b2 ea1 ed1 ec1 eb1 ea2 ed2 ec2 eb2 = cc

@@ -2,10 +2,10 @@
 use Rattle.std.specs.Prelude.{ℕ, zero, suc, ◌+◌, ◌*◌, ◌/◌, ◌%◌, ◌^◌, List, [], ◌∷◌, map, slice_index}
 use Rattle.std.specs.List.{range_with_len}
 use Rattle.chacha20.specs.Words.{◌⊞◌, Quarter}
-use Rattle.chacha20.specs.declared.block.State.{State}
+use Rattle.chacha20.specs.declared.state.State.{State}
 
 -- quarter rounds on the four columns
-unfoldable pub Columns : State → State
+unfoldable pub Columns : State ℕ → State ℕ
 Columns s =
     record {
       x0 = (Quarter s.x0 s.x4 s.x8 s.x12).0;
@@ -27,7 +27,7 @@ Columns s =
     }
 
 -- quarter rounds on the four diagonals
-unfoldable pub Diagonals : State → State
+unfoldable pub Diagonals : State ℕ → State ℕ
 Diagonals s =
     record {
       x0 = (Quarter s.x0 s.x5 s.x10 s.x15).0;
@@ -49,11 +49,11 @@ Diagonals s =
     }
 
 -- n times two rounds
-unfoldable pub Doubles : State → ℕ → State
+unfoldable pub Doubles : State ℕ → ℕ → State ℕ
 Doubles s zero = s
 Doubles s (suc n) = Diagonals (Columns (Doubles s n))
 
-unfoldable pub Add : State → State → State
+unfoldable pub Add : State ℕ → State ℕ → State ℕ
 Add s t =
     record {
       x0 = s.x0 ⊞ t.x0;
@@ -79,7 +79,7 @@ abbrev pub Le32 : List ℕ → ℕ → ℕ
 Le32 b i = slice_index b i + slice_index b (i + 1) * 256 + slice_index b (i + 2) * 65536 + slice_index b (i + 3) * 16777216
 
 -- the words "expa", "nd 3", "2-by" and "te k", the key, the counter and the nonce
-unfoldable pub Init : List ℕ → ℕ → List ℕ → State
+unfoldable pub Init : List ℕ → ℕ → List ℕ → State ℕ
 Init key counter nonce =
     record {
       x0 = 0x6170_7865;
@@ -101,11 +101,11 @@ Init key counter nonce =
     }
 
 -- ten times two rounds, added to what they began with
-unfoldable pub Rounds : State → State
+unfoldable pub Rounds : State ℕ → State ℕ
 Rounds s = Add (Doubles s 10) s
 
 -- the words of a state
-abbrev pub Listed : State → List ℕ
+abbrev pub Listed : State ℕ → List ℕ
 Listed s =
     s.x0 ∷ s.x1 ∷ s.x2 ∷ s.x3 ∷ s.x4 ∷ s.x5 ∷ s.x6 ∷ s.x7 ∷ s.x8 ∷ s.x9 ∷ s.x10 ∷ s.x11 ∷ s.x12 ∷ s.x13
     ∷ s.x14

@@ -1,5 +1,5 @@
 -- Encryption, which is decryption too: RFC 8439, section 2.4.
-use Rattle.std.specs.Prelude.{◌≡◌, ℕ, ◌+◌, ◌-◌, ◌/◌, ◌%◌, ◌<◌, ◌≤◌, List, map, length, bit_xor, slice_index}
+use Rattle.std.specs.Prelude.{◌≡◌, ℕ, ◌+◌, ◌/◌, ◌%◌, ◌<◌, List, map, length, bit_xor, slice_index}
 use Rattle.std.specs.List.{range_with_len}
 use Rattle.chacha20.specs.Block.{Block}
 
@@ -16,12 +16,10 @@ ChaCha20 key counter nonce text =
 abbrev pub Blocks : ℕ → ℕ
 Blocks n = (n + 63) / 64
 
--- u is t, but for the n bytes from at on, which are xored with s 0, s 1, and so on
-pub record Xored (t : List ℕ) (s : ℕ → ℕ) (at n : ℕ) (u : List ℕ) : Type 0 where
+-- u is t with its bytes xored with s 0, s 1, and so on
+pub record Xored (t : List ℕ) (s : ℕ → ℕ) (u : List ℕ) : Type 0 where
   pub size : length u ≡ length t
-  pub inside : (k : ℕ) → at ≤ k → k < at + n → slice_index u k ≡ bit_xor (slice_index t k) (s (k - at))
-  pub below : (k : ℕ) → k < at → slice_index u k ≡ slice_index t k
-  pub above : (k : ℕ) → at + n ≤ k → slice_index u k ≡ slice_index t k
+  pub byte : (k : ℕ) → k < length t → slice_index u k ≡ bit_xor (slice_index t k) (s k)
 
 -- decryption is encryption again
 abbrev pub Undoes : Type 0

@@ -1,33 +1,32 @@
--- The lanes of four blocks, and the key stream from a state on.
-use Rattle.std.specs.Prelude.{ℕ, ◌+◌, ◌/◌, ◌%◌, ◌^◌, slice_index}
+-- The lanes of blocks side by side, and the key stream from a state on.
+use Rattle.std.specs.Prelude.{ℕ, ◌+◌, ◌/◌, ◌%◌, ◌^◌}
 use Rattle.chacha20.specs.Block.{ByteAt, Listed, Rounds}
-use Rattle.chacha20.specs.declared.block.State.{State}
-use Rattle.chacha20.specs.declared.quads.Quads.{Quads}
+use Rattle.chacha20.specs.declared.state.State.{State}
 
 -- the words of the block in the lane l
-abbrev pub Lane : ℕ → Quads → State
-Lane l q =
+abbrev pub Lane : {W : Type 0} → (ℕ → W → ℕ) → ℕ → State W → State ℕ
+Lane lane l s =
     record {
-      x0 = slice_index q.x0 l;
-      x1 = slice_index q.x1 l;
-      x2 = slice_index q.x2 l;
-      x3 = slice_index q.x3 l;
-      x4 = slice_index q.x4 l;
-      x5 = slice_index q.x5 l;
-      x6 = slice_index q.x6 l;
-      x7 = slice_index q.x7 l;
-      x8 = slice_index q.x8 l;
-      x9 = slice_index q.x9 l;
-      x10 = slice_index q.x10 l;
-      x11 = slice_index q.x11 l;
-      x12 = slice_index q.x12 l;
-      x13 = slice_index q.x13 l;
-      x14 = slice_index q.x14 l;
-      x15 = slice_index q.x15 l;
+      x0 = lane l s.x0;
+      x1 = lane l s.x1;
+      x2 = lane l s.x2;
+      x3 = lane l s.x3;
+      x4 = lane l s.x4;
+      x5 = lane l s.x5;
+      x6 = lane l s.x6;
+      x7 = lane l s.x7;
+      x8 = lane l s.x8;
+      x9 = lane l s.x9;
+      x10 = lane l s.x10;
+      x11 = lane l s.x11;
+      x12 = lane l s.x12;
+      x13 = lane l s.x13;
+      x14 = lane l s.x14;
+      x15 = lane l s.x15;
     }
 
 -- the state n blocks on
-unfoldable pub Advance : ℕ → State → State
+unfoldable pub Advance : ℕ → State ℕ → State ℕ
 Advance n s =
     record {
       x0 = s.x0;
@@ -49,9 +48,9 @@ Advance n s =
     }
 
 -- the byte i of the key stream whose first block begins with the state s
-unfoldable pub Keyed : State → ℕ → ℕ
+unfoldable pub Keyed : State ℕ → ℕ → ℕ
 Keyed s i = ByteAt (Listed (Rounds (Advance (i / 64) s))) (i % 64)
 
--- the byte i of four blocks
-abbrev pub QuadByte : Quads → ℕ → ℕ
-QuadByte q i = ByteAt (Listed (Lane (i / 64) q)) (i % 64)
+-- the byte i of the blocks of all lanes, one after another
+abbrev pub LaneByte : {W : Type 0} → (ℕ → W → ℕ) → State W → ℕ → ℕ
+LaneByte lane s i = ByteAt (Listed (Lane lane (i / 64) s)) (i % 64)

@@ -1,10 +1,10 @@
 // ChaCha20 (RFC 8439).
 #![tactic(auto)]
 
-mod block;
 mod cipher;
-mod quads;
+mod state;
 mod stream;
+mod word;
 mod xor;
 
 pub use cipher::{Error, apply, undoes};

@@ -1,32 +1,28 @@
-// The key stream of a state, one block or four at a time.
+// The key stream of a state, over as many blocks as are worked on side by side, or the first bytes of them.
 
-ghost use Rattle.std.specs.Prelude.{◌≡◌, ◌+◌, ◌≤◌, length};
+ghost use Rattle.std.specs.Prelude.{◌≡◌, ◌*◌, ◌≤◌, length};
 ghost use Rattle.chacha20.specs.Cipher.{Xored};
-ghost use Rattle.chacha20.specs.Lanes.{Advance, Keyed};
+ghost use Rattle.chacha20.specs.Lanes.{Keyed};
 
-use crate::block::State;
-use crate::xor::{xor_quads, xor_state};
-use crate::{block, quads};
+use crate::state::State;
+use crate::word::Word;
+use octets::put;
 
-// The state `n` blocks on.
-pub(crate) fn advanced(s: State, n: usize) -> State
-    ensures { result ≡ Advance n s }
+pub(crate) fn whole<W: Word>(text: &mut [u8], s: State<u32>)
+    requires { length text.old ≡ 64 * W.lanes }
+    ensures { Xored text.old (Keyed s) text.new }
 {
-    let mut t = s;
-    t.x12 = s.x12.wrapping_add((n % (1 << 32)) as u32);
-    t
+    W::xor(State::<W>::spread(s).rounds(), text);
 }
 
-pub(crate) fn one_block(text: &mut [u8], at: usize, s: State)
-    requires { at + 64 ≤ length text.old }
-    ensures { Xored text.old (Keyed s) at 64 text.new }
+pub(crate) fn part<W: Word, const N: usize>(text: &mut [u8], s: State<u32>)
+    requires blocks { N ≡ 64 * W.lanes }
+    requires small { N ≤ 256 }
+    requires room { length text.old ≤ N }
+    ensures { Xored text.old (Keyed s) text.new }
 {
-    xor_state(text, at, block::rounds(s));
-}
-
-pub(crate) fn four_blocks(text: &mut [u8], at: usize, s: State)
-    requires { at + 256 ≤ length text.old }
-    ensures { Xored text.old (Keyed s) at 256 text.new }
-{
-    xor_quads(text, at, quads::rounds(quads::spread(s)));
+    let mut buffer = [0u8; N];
+    put(&mut buffer, 0, text);
+    whole::<W>(&mut buffer, s);
+    text.copy_from_slice(&buffer[..text.len()]);
 }

@@ -5,9 +5,8 @@ use Rattle.sha256.specs.Message.{SHA256}
 use Rattle.sha256.specs.Stream as sha
 use Rattle.sha256.specs.declared.stream.Error.{Error}
 use Rattle.sha256.specs.declared.stream.Sha256.{Sha256}
-use Rattle.hmac.specs.Calls.{Prepared, Takes, Updated}
+use Rattle.hmac.specs.Calls.{Takes, Updated}
 use Rattle.hmac.specs.Hmac.{HMAC, Ipad, Masked, Opad, Padded, Short}
-use Rattle.hmac.specs.declared.Key.{Key}
 use Rattle.hmac.specs.declared.Mac.{Mac}
 use Rattle.hmac.proofs.Pads.{length-ipad, length-opad, length-sha}
 
@@ -18,23 +17,16 @@ pub took : (s t : Sha256) (p m : List ℕ) (r : Result (Unit {0}) Error) → sha
 took s t p m (Ok x) u h l = u.cases m h
 took s t p m (Err e) u h l = absurd (omega (arith, u.refused m h))
 
-pub prepared : (k : Key) (key b i o : List ℕ) → b ≡ Padded (Short key) → i ≡ Masked b 0x36 → o ≡ Masked b 0x5c
-    → sha.Holds k.inner i
-    → sha.Holds k.outer o
-    → Prepared k key
+pub prepared : (s : Mac) (key b i o : List ℕ) → b ≡ Padded (Short key) → i ≡ Masked b 0x36 → o ≡ Masked b 0x5c
+    → sha.Holds s.inner i
+    → sha.Holds s.outer o
+    → Takes s key []
 unfolding Ipad Opad
-prepared k key b i o eb ei eo hi ho =
+prepared s key b i o eb ei eo hi ho =
     record {
-      inner = subst (λ (v : List ℕ). sha.Holds k.inner v) (ei ∙ ap (λ (v : List ℕ). Masked v 0x36) eb) hi;
-      outer = subst (λ (v : List ℕ). sha.Holds k.outer v) (eo ∙ ap (λ (v : List ℕ). Masked v 0x5c) eb) ho;
-    }
-
-pub started : (k : Key) (s : Mac) (key : List ℕ) → s.inner ≡ k.inner → s.outer ≡ k.outer → Prepared k key → Takes s key []
-started k s key ei eo p =
-    record {
-      inner = subst (λ (v : List ℕ). sha.Holds s.inner v) (sym (append-nil (Ipad key)))
-          (subst (λ (h : Sha256). sha.Holds h (Ipad key)) (sym ei) p.inner);
-      outer = subst (λ (h : Sha256). sha.Holds h (Opad key)) (sym eo) p.outer;
+      inner = subst (λ (v : List ℕ). sha.Holds s.inner v)
+          (ei ∙ ap (λ (v : List ℕ). Masked v 0x36) eb ∙ sym (append-nil (Masked (Padded (Short key)) 0x36))) hi;
+      outer = subst (λ (v : List ℕ). sha.Holds s.outer v) (eo ∙ ap (λ (v : List ℕ). Masked v 0x5c) eb) ho;
     }
 
 length-inner : (key m : List ℕ) → length (Ipad key ++ m) ≡ 64 + length m

@@ -1,20 +1,19 @@
 -- What a prepared key and a tag under way stand for, and what their calls do.
-use Rattle.std.specs.Prelude.{◌≡◌, ℕ, ◌+◌, ◌^◌, ◌<◌, ◌≤◌, ◌⊎◌, List, ◌++◌, length, Result, MatchResult}
+use Rattle.std.specs.Prelude.{◌≡◌, ℕ, ◌+◌, ◌^◌, ◌<◌, ◌≤◌, ◌⊎◌, List, [], ◌++◌, length, Result, MatchResult}
 use Rattle.sha256.specs.Stream.{Holds}
 use Rattle.sha256.specs.declared.stream.Error.{Error}
 use Rattle.hmac.specs.Hmac.{HMAC, Ipad, Opad}
 use Rattle.hmac.specs.declared.Key.{Key}
 use Rattle.hmac.specs.declared.Mac.{Mac}
 
--- k is prepared from the bytes of key
-pub record Prepared (k : Key) (key : List ℕ) : Type 0 where
-  pub inner : Holds k.inner (Ipad key)
-  pub outer : Holds k.outer (Opad key)
-
 -- s has taken in the message m under key, and nothing else
 pub record Takes (s : Mac) (key m : List ℕ) : Type 0 where
   pub inner : Holds s.inner (Ipad key ++ m)
   pub outer : Holds s.outer (Opad key)
+
+-- k is prepared from the bytes of key
+abbrev pub Prepared : Key → List ℕ → Type 0
+Prepared k key = Takes k.begun key []
 
 -- one more part: it is taken in whole, or refused since the message would have 2^61 - 64 bytes or more, and nothing changes
 pub record Updated (s : Mac) (part : List ℕ) (r : Result (Unit {0}) Error) (t : Mac) : Type 0 where

@@ -1,10 +1,10 @@
 -- HMAC with SHA-256: RFC 2104, section 2, with blocks of 64 bytes.
-use Rattle.std.specs.Prelude.{ℕ, ◌-◌, cond, List, ◌++◌, map, length, replicate, bit_xor, nat_le}
+use Rattle.std.specs.Prelude.{ℕ, ◌-◌, if◌then◌else◌, List, ◌++◌, map, length, replicate, bit_xor, nat_le}
 use Rattle.sha256.specs.Message.{SHA256}
 
 -- a key of at most 64 bytes as it is, a longer one by its digest
 unfoldable pub Short : List ℕ → List ℕ
-Short key = cond (nat_le (length key) 64) key (SHA256 key)
+Short key = (if nat_le (length key) 64 then key else SHA256 key)
 
 -- zeros to 64 bytes
 unfoldable pub Padded : List ℕ → List ℕ

@@ -1,21 +1,13 @@
 // HMAC with SHA-256 (RFC 2104).
 #![tactic(auto)]
 
-ghost use Rattle.std.specs.Int.Bits.{bit_xor};
-ghost use Rattle.std.specs.Prelude.{◌≡◌, ℕ, ◌+◌, ◌^◌, ◌<◌, ◌≤◌, List, [], ◌++◌, length, replicate, MatchResult};
+ghost use Rattle.std.specs.Prelude.{◌≡◌, ℕ, ◌^◌, ◌<◌, ◌≤◌, List, [], length, MatchResult};
 ghost use Rattle.sha256.specs.Stream.{Holds};
 ghost use Rattle.hmac.specs.Calls.{Prepared, Tags, Takes, Updated, Whole};
 ghost use Rattle.hmac.specs.Hmac.{HMAC, Masked, Padded, Short};
 
 use octets::put;
 use sha256::{Error, Sha256};
-
-// A key that is prepared once, and serves any number of messages.
-#[derive(Clone, Copy)]
-pub struct Key {
-    inner: Sha256,
-    outer: Sha256,
-}
 
 // A tag under way.
 #[derive(Clone, Copy)]
@@ -24,6 +16,14 @@ pub struct Mac {
     outer: Sha256,
 }
 
+// A key that is prepared once, and serves any number of messages.
+#[derive(Clone, Copy)]
+pub struct Key {
+    // The tag of a message of which nothing has come.
+    begun: Mac,
+}
+
+#[tactic(auto, using(crate::proofs::Pads::padded_is))]
 fn padded(part: &[u8]) -> [u8; 64]
     requires { length part.now ≤ 64 }
     ensures { result ≡ Padded part.now }
@@ -39,16 +39,15 @@ fn key_block(key: &[u8]) -> Result<[u8; 64], Error>
     if key.len() <= 64 {
         return Ok(padded(key));
     }
-    let digest = sha256::hash(key)?;
-    Ok(padded(&digest))
+    Ok(padded(&sha256::hash(key)?))
 }
 
 fn masked(block: &[u8; 64], mask: u8) -> [u8; 64]
     ensures { result ≡ Masked block.now mask }
 {
-    let mut pad = [0u8; 64];
-    for i in 0..64usize {
-        pad[i] = block[i] ^ mask;
+    let mut pad = *block;
+    for byte in pad.iter_mut() {
+        *byte ^= mask;
     }
     pad
 }
@@ -68,19 +67,17 @@ impl Key {
         ensures { MatchResult result (λ k. (length key.now < 2 ^ 61) × Prepared k key.now) (λ _. 2 ^ 61 ≤ length key.now) }
     {
         let block = key_block(key)?;
-        Ok(Key {
+        let begun = Mac {
             inner: begun(&masked(&block, 0x36)),
             outer: begun(&masked(&block, 0x5c)),
-        })
+        };
+        Ok(Key { begun })
     }
 
     pub fn start(&self) -> Mac
         ensures { (key : List ℕ) → Prepared self.now key → Takes result key [] }
     {
-        Mac {
-            inner: self.inner,
-            outer: self.outer,
-        }
+        self.begun
     }
 
     // The tag of a whole message.

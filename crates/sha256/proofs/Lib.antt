@@ -1,7 +1,5 @@
-pub mod Steps
-pub mod Turns
-pub mod Outputs
 pub mod Streams
 pub mod Paddings
 pub mod Updates
 pub mod Bits
+pub mod Turns

@@ -3,9 +3,9 @@ use Rattle.std.proofs.Common.{◌≡◌, ℕ, suc, ◌+◌, ◌-◌, ◌*◌, �
 use Rattle.std.proofs.lemmas.List.{append_assoc, drop-replicate, length-append, length-replicate, replicate-append-replicate, set_at, take_at}
 use Rattle.sha256.specs.Message.{Bytes64, Padding, PaddingFills}
 
-pub marked-is : (r t : List ℕ) → length r < 64 → t ≡ r ++ drop (0 + length r) (replicate 128 0)
+pub marked_is : (r t : List ℕ) → length r < 64 → t ≡ r ++ drop (0 + length r) (replicate 128 0)
     → set t (length r) 128 ≡ r ++ (128 ∷ replicate (127 - length r) 0)
-marked-is r t h e =
+marked_is r t h e =
     let n : 128 - (0 + length r) ≡ suc (127 - length r) = omega arith in
     let f : t ≡ r ++ (0 ∷ replicate (127 - length r) 0) =
     e ∙ ap (λ (v : List ℕ). r ++ v) (drop-replicate (0 + length r) 128 0 ∙ ap (λ (k : ℕ). replicate k 0) n) in
@@ -25,7 +25,7 @@ bytes-mod n =
     cc
 
 -- the marked end with its length, cut where the padding ends
-pub padded-is : (r : List ℕ) (total e k : ℕ) (t b u : List ℕ) → length r ≡ total % 64
+pub padded_is : (r : List ℕ) (total e k : ℕ) (t b u : List ℕ) → length r ≡ total % 64
     → t ≡ r ++ (128 ∷ replicate (127 - length r) 0)
     → e ≡ length r + 9 + (119 - length r) % 64
     → b ≡ Bytes64 ((total * 8) % 2 ^ 64)
@@ -33,7 +33,7 @@ pub padded-is : (r : List ℕ) (total e k : ℕ) (t b u : List ℕ) → length r
     → k ≡ e
     → take k u ≡ r ++ Padding total
 unfolding Padding
-padded-is r total e k t b u hr et ee eb eu ek =
+padded_is r total e k t b u hr et ee eb eu ek =
     let z : ℕ = (119 - length r) % 64 in
     let m : List ℕ = r ++ (128 ∷ replicate z 0) in
     let lm : length m ≡ e - 8 = simp (length-append, length-replicate) (omega arith) in

@@ -1,20 +1,44 @@
 -- The hash value after the blocks of a message that comes in parts.
-use Rattle.std.proofs.Common.{◌≡◌, ℕ, zero, suc, ◌+◌, ◌*◌, ◌/◌, ◌≤◌, List, ◌++◌, length, take, drop, sym, refl, ap, ◌∙◌, add-zero, add-suc, add-one, arith}
-use Rattle.std.proofs.lemmas.List.{append_assoc, drop-append-le, drop_at, drop-drop, length-append, length-drop, length-take-le, take-append-drop, take-append-le}
+use Rattle.std.proofs.Common.{◌≡◌, ℕ, zero, suc, ◌+◌, ◌-◌, ◌*◌, ◌/◌, ◌<◌, ◌≤◌, List, ◌++◌, length, take, drop, sym, refl, ap, ◌∙◌, add-zero, add-suc, add-one, arith}
+use Rattle.std.proofs.lemmas.List.{append_assoc, drop-append-le, drop_at, drop-drop, length-append, length-drop, length-take-le, take-append-drop, take-append-le, take_at}
 use Rattle.sha256.specs.Message.{After, Output, Padding, SHA256, Start, Words}
 use Rattle.sha256.specs.Rounds.{Compress}
 use Rattle.sha256.specs.declared.rounds.State.{State}
 
--- one block more
-pub after_more : (h : State) (p : List ℕ) (i k : ℕ) (s t : State) (w : List ℕ) → k ≡ 64 → s ≡ After h p i
-    → w ≡ Words (take k (drop (64 * i) p))
-    → t ≡ Compress s w
-    → t ≡ After h p (i + 1)
+-- n blocks of p are taken in, and r is left
+pub record Taken (h : State) (p : List ℕ) (n : ℕ) (s : State) (r : List ℕ) : Type 0 where
+  pub state : s ≡ After h p n
+  pub rest : r ≡ drop (64 * n) p
+  pub within : 64 * n ≤ length p
+
+pub taken-none : (h : State) (p r : List ℕ) → r ≡ p → Taken h p 0 h r
 unfolding After
-after_more h p i k s t w ek es ew et =
-    et ∙ ap (λ (x : State). Compress x w) es ∙ ap (Compress (After h p i)) ew
-    ∙ ap (λ (j : ℕ). Compress (After h p i) (Words (take j (drop (64 * i) p)))) ek
-    ∙ ap (After h p) (sym (add-one i))
+taken-none h p r e = record { state = refl; rest = e; within = omega arith }
+
+-- one block more
+pub taken_more : (h : State) (p : List ℕ) (n m : ℕ) (s t : State) (r q b w : List ℕ) → Taken h p n s r → r ≡ b ++ q → length b ≡ 64
+    → w ≡ Words b
+    → t ≡ Compress s w
+    → m ≡ n + 1
+    → Taken h p m t q
+unfolding After
+taken_more h p n m s t r q b w k er lb ew et em =
+    let d : b ++ q ≡ drop (64 * n) p = sym er ∙ k.rest in
+    let eb : b ≡ take 64 (drop (64 * n) p) = sym (take_at b q 64 lb) ∙ ap (take 64) d in
+    let eq : q ≡ drop 64 (drop (64 * n) p) = sym (drop_at b q 64 lb) ∙ ap (drop 64) d in
+    let j : 64 * n + 64 ≡ 64 * m = omega arith in
+    let l : 64 + length q ≡ length p - 64 * n = sym (length-append b q ∙ ap (λ i. i + length q) lb) ∙ ap length d ∙ length-drop (64 * n) p in
+    record {
+      state = et ∙ (λ i. Compress (k.state i) (ew i)) ∙ ap (λ v. Compress (After h p n) (Words v)) eb ∙ ap (After h p) (sym (em ∙ add-one n));
+      rest = eq ∙ drop-drop 64 (64 * n) p ∙ ap (λ i. drop i p) j;
+      within = omega (arith, k.within);
+    }
+
+-- no block is left
+pub taken_all : (h : State) (p : List ℕ) (n : ℕ) (s : State) (r : List ℕ) → Taken h p n s r → length r < 64 → s ≡ After h p (length p / 64)
+taken_all h p n s r k l =
+    let d : length r ≡ length p - 64 * n = ap length k.rest ∙ length-drop (64 * n) p in
+    k.state ∙ ap (After h p) (let e : n ≡ length p / 64 = omega (arith, k.within) in e)
 
 -- what stands behind n blocks does not matter to them
 pub after_front : (h : State) (p q : List ℕ) (n : ℕ) → 64 * n ≤ length p → After h (p ++ q) n ≡ After h p n
@@ -56,10 +80,10 @@ after-rest h m q j =
     ap (λ (v : List ℕ). After h v (n + j)) e ∙ after-split h f (b ++ q) n j l ∙ ap (λ (x : State). After x (b ++ q) j) a
 
 -- the digest, from the hash value after the whole blocks and the bytes behind them
-pub digest-is : (m b : List ℕ) (s : State) → s ≡ After Start m (length m / 64) → b ≡ drop (64 * (length m / 64)) m
+pub digest_is : (m b : List ℕ) (s : State) → s ≡ After Start m (length m / 64) → b ≡ drop (64 * (length m / 64)) m
     → Output (After s (b ++ Padding (length m)) (length (b ++ Padding (length m)) / 64)) ≡ SHA256 m
 unfolding SHA256
-digest-is m b s es eb =
+digest_is m b s es eb =
     let n : ℕ = length m / 64 in
     let p : List ℕ = Padding (length m) in
     let d : List ℕ = drop (64 * n) m in

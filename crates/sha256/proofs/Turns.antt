@@ -1,9 +1,32 @@
--- The 64 turns of a block, sixteen at a time, over a window of the schedule.
-use Rattle.std.proofs.Common.{◌≡◌, ℕ, zero, suc, ◌+◌, ◌-◌, ◌≤◌, List, [], ◌∷◌, ◌++◌, length, get_or, take, drop, sym, refl, ap, ◌∙◌, add-zero, add_assoc, add-suc, arith}
-use Rattle.std.proofs.lemmas.List.{length-append, get_or-drop, get_or-take, drop-append-le, take-append-le, take_all, drop-drop, length-drop}
+-- The words and the turns of a block, one more at a time.
+use Rattle.std.proofs.Common.{◌≡◌, ℕ, zero, suc, ◌+◌, ◌%◌, ◌<◌, ◌≤◌, ◌⊎◌, inl, inr, List, [], ◌∷◌, ◌++◌, length, get_or, take, drop, set, sym, refl, ap, ◌∙◌, add-one, add-zero, add-suc, arith}
+use Rattle.std.proofs.lemmas.List.{drop_at, get_or-drop, get_or-take, length-append, take_more_set, take_at}
 use Rattle.sha256.specs.Constants.{KS}
 use Rattle.sha256.specs.Rounds.{Extend, Round, Rounds, Schedule}
 use Rattle.sha256.specs.declared.rounds.State.{State}
+
+-- the block, and then zeros
+pub schedule-none : (m b z : List ℕ) → b ≡ m → length m ≡ 16 → take 16 (b ++ z) ≡ Schedule m 0
+unfolding Schedule
+schedule-none m b z e l = ap (λ v. take 16 (v ++ z)) e ∙ take_at m z 16 l
+
+-- a word more, made of those before it
+pub schedule_more : (m w : List ℕ) (t x : ℕ) → t + 16 < length w → take (t + 16) w ≡ Schedule m t
+    → x ≡ Extend (get_or w t 0) (get_or w (t + 1) 0) (get_or w (t + 9) 0) (get_or w (t + 14) 0)
+    → take (t + 1 + 16) (set w (t + 16) x) ≡ Schedule m (t + 1)
+unfolding Schedule
+schedule_more m w t x l e ex =
+    let n : t + 1 + 16 ≡ t + 16 + 1 = omega arith in
+    let at : (i : ℕ) → i < 16 → get_or w (t + i) 0 ≡ get_or (Schedule m t) (t + i) 0 =
+    λ i h. sym (get_or-take (t + 16) w (t + i) 0 (omega arith)) ∙ ap (λ v. get_or v (t + i) 0) e in
+    let a0 : get_or w t 0 ≡ get_or (Schedule m t) t 0 = sym (get_or-take (t + 16) w t 0 (omega arith)) ∙ ap (λ v. get_or v t 0) e in
+    let a1 = at 1 (omega arith) in
+    let a9 = at 9 (omega arith) in
+    let a14 = at 14 (omega arith) in
+    let y : x ≡ Extend (get_or (Schedule m t) t 0) (get_or (Schedule m t) (t + 1) 0) (get_or (Schedule m t) (t + 9) 0)
+    (get_or (Schedule m t) (t + 14) 0) = cc in
+    ap (λ k. take k (set w (t + 16) x)) n ∙ take_more_set w (t + 16) x l ∙ (λ i. e i ++ (y i ∷ []))
+    ∙ ap (Schedule m) (sym (add-one t))
 
 -- later turns go on from earlier ones
 rounds-split : (ks ws : List ℕ) (s : State) (n j : ℕ)
@@ -29,76 +52,51 @@ rounds-take ks ws s m (suc n) h =
     let f : get_or (take m ks) n 0 ≡ get_or ks n 0 = get_or-take m ks n 0 (omega arith) in
     let g : get_or (take m ws) n 0 ≡ get_or ws n 0 = get_or-take m ws n 0 (omega arith) in cc
 
+-- the turns of ks and ws are still to come, eight at a time
+pub record Turned (h : State) (m : List ℕ) (s : State) (ks ws : List ℕ) : Type 0 where
+  pub whole : Rounds ks ws s (length ks) ≡ Rounds KS (Schedule m 48) h 64
+  pub same : length ws ≡ length ks
+  pub eights : length ks % 8 ≡ 0
+
 length-schedule : (m : List ℕ) (n : ℕ) → length (Schedule m n) ≡ length m + n
 unfolding Schedule
 length-schedule m zero = sym (add-zero (length m))
 length-schedule m (suc n) = let e = length-schedule m n in simp length-append (omega arith)
 
--- the words that come next are made of the last sixteen
-schedule-split : (m : List ℕ) (n j : ℕ) → drop n (Schedule m (n + j)) ≡ Schedule (drop n (Schedule m n)) j
-unfolding Schedule
-schedule-split m n zero = ap (λ (i : ℕ). drop n (Schedule m i)) (add-zero n)
-schedule-split m n (suc j) =
-    let s : List ℕ = Schedule m (n + j) in
-    let e : drop n s ≡ Schedule (drop n (Schedule m n)) j = schedule-split m n j in
-    let l : n ≤ length s = omega (arith, length-schedule m (n + j)) in
-    let at : (i : ℕ) → get_or s (n + j + i) 0 ≡ get_or (drop n s) (j + i) 0 =
-    λ i. ap (λ (k : ℕ). get_or s k 0) (add_assoc n j i) ∙ sym (get_or-drop n s (j + i) 0) in
-    let a0 : get_or s (n + j) 0 ≡ get_or (drop n s) j 0 = sym (get_or-drop n s j 0) in
-    let a1 : get_or s (n + j + 1) 0 ≡ get_or (drop n s) (j + 1) 0 = at 1 in
-    let a9 : get_or s (n + j + 9) 0 ≡ get_or (drop n s) (j + 9) 0 = at 9 in
-    let a14 : get_or s (n + j + 14) 0 ≡ get_or (drop n s) (j + 14) 0 = at 14 in
-    let x : Extend (get_or s (n + j) 0) (get_or s (n + j + 1) 0) (get_or s (n + j + 9) 0) (get_or s (n + j + 14) 0)
-    ≡ Extend (get_or (drop n s) j 0) (get_or (drop n s) (j + 1) 0) (get_or (drop n s) (j + 9) 0) (get_or (drop n s) (j + 14) 0) = cc in
-    ap (λ (i : ℕ). drop n (Schedule m i)) (add-suc n j)
-    ∙ drop-append-le n s
-    (Extend (get_or s (n + j) 0) (get_or s (n + j + 1) 0) (get_or s (n + j + 9) 0) (get_or s (n + j + 14) 0) ∷ [])
-    l
-    ∙ ap (λ (y : ℕ). drop n s ++ y ∷ []) x
-    ∙ ap
-    (λ (v : List ℕ). v ++ Extend (get_or v j 0) (get_or v (j + 1) 0) (get_or v (j + 9) 0) (get_or v (j + 14) 0) ∷ [])
-    e
+pub turned-none : (h : State) (m w ks ws : List ℕ) → w ≡ Schedule m 48 → length m ≡ 16 → ks ≡ KS → ws ≡ w → Turned h m h ks ws
+turned-none h m w ks ws ew lm ek es =
+    let lw : length w ≡ 64 = ap length ew ∙ length-schedule m 48 ∙ ap (λ n. n + 48) lm in
+    record {
+      whole = λ i. Rounds (ek i) ((es ∙ ew) i) h (length (ek i));
+      same = ap length es ∙ lw ∙ sym (ap length ek);
+      eights = ap (λ v. length v % 8) ek;
+    }
 
--- the schedule begins with the block
-take-schedule : (m : List ℕ) (j : ℕ) → length m ≡ 16 → take 16 (Schedule m j) ≡ m
-unfolding Schedule
-take-schedule m zero l = take_all 16 m (omega arith)
-take-schedule m (suc j) l =
-    let h : 16 ≤ length (Schedule m j) = omega (arith, length-schedule m j) in
-    take-append-le 16 (Schedule m j)
-    (Extend (get_or (Schedule m j) j 0) (get_or (Schedule m j) (j + 1) 0) (get_or (Schedule m j) (j + 9) 0)
-    (get_or (Schedule m j) (j + 14) 0) ∷ [])
-    h
-    ∙ take-schedule m j l
+-- eight turns more
+pub turned_more : (h : State) (m : List ℕ) (s t : State) (ks ws k w kr wr : List ℕ) → Turned h m s ks ws → ks ≡ k ++ kr → ws ≡ w ++ wr
+    → length k ≡ 8
+    → length w ≡ 8
+    → t ≡ Rounds k w s 8
+    → Turned h m t kr wr
+turned_more h m s t ks ws k w kr wr x ek ew lk lw et =
+    let lks : length ks ≡ 8 + length kr = ap length ek ∙ length-append k kr ∙ ap (λ n. n + length kr) lk in
+    let lws : length ws ≡ 8 + length wr = ap length ew ∙ length-append w wr ∙ ap (λ n. n + length wr) lw in
+    let a : Rounds k w s 8 ≡ Rounds (k ++ kr) (w ++ wr) s 8 =
+    sym (λ i. Rounds (take_at k kr 8 lk i) (take_at w wr 8 lw i) s 8) ∙ rounds-take (k ++ kr) (w ++ wr) s 8 8 (omega arith) in
+    let b : Rounds kr wr (Rounds (k ++ kr) (w ++ wr) s 8) (length kr) ≡ Rounds (k ++ kr) (w ++ wr) s (8 + length kr) =
+    sym
+    (rounds-split (k ++ kr) (w ++ wr) s 8 (length kr)
+    ∙ (λ i. Rounds (drop_at k kr 8 lk i) (drop_at w wr 8 lw i) (Rounds (k ++ kr) (w ++ wr) s 8) (length kr))) in
+    record {
+      whole = ap (λ y. Rounds kr wr y (length kr)) (et ∙ a) ∙ b ∙ sym (λ i. Rounds (ek i) (ew i) s (lks i)) ∙ x.whole;
+      same = omega (arith, x.same);
+      eights = omega (arith, x.eights);
+    }
 
--- the window sixteen words on
-pub window_more : (m : List ℕ) (n : ℕ) (v u : List ℕ) → v ≡ drop n (Schedule m n) → u ≡ drop 16 (Schedule v 16)
-    → u ≡ drop (n + 16) (Schedule m (n + 16))
-window_more m n v u e f =
-    f ∙ ap (λ (w : List ℕ). drop 16 (Schedule w 16)) e
-    ∙ ap (drop 16) (sym (schedule-split m n 16))
-    ∙ drop-drop 16 n (Schedule m (n + 16))
-
--- sixteen turns over a window, of the 64 over the whole schedule
-pub turns_more : (m : List ℕ) (s : State) (n c : ℕ) (v : List ℕ) (x y : State) → length m ≡ 16 → n ≤ 48 → c ≡ 16
-    → x ≡ Rounds KS (Schedule m 48) s n
-    → v ≡ drop n (Schedule m n)
-    → y ≡ Rounds (take c (drop n KS)) v x 16
-    → y ≡ Rounds KS (Schedule m 48) s (n + 16)
-turns_more m s n c v x y l ln ec ex ev ey =
-    let ws : List ℕ = Schedule m 48 in
-    let lv : length (drop n (Schedule m n)) ≡ 16 = simp length-drop (omega (arith, length-schedule m n)) in
-    let q : n + (48 - n) ≡ 48 = omega arith in
-    let w : v ≡ take 16 (drop n ws) =
-    ev ∙ sym (take-schedule (drop n (Schedule m n)) (48 - n) lv) ∙ ap (take 16) (sym (schedule-split m n (48 - n)))
-    ∙ ap (λ (k : ℕ). take 16 (drop n (Schedule m k))) q in
-    ey ∙ ap (λ (k : ℕ). Rounds (take k (drop n KS)) v x 16) ec
-    ∙ ap (λ (z : State). Rounds (take 16 (drop n KS)) v z 16) ex
-    ∙ ap (λ (u : List ℕ). Rounds (take 16 (drop n KS)) u (Rounds KS ws s n) 16) w
-    ∙ rounds-take (drop n KS) (drop n ws) (Rounds KS ws s n) 16 16 (omega arith)
-    ∙ sym (rounds-split KS ws s n 16)
-
--- the window and the state before the first turn
-pub turns-none : (m : List ℕ) (s : State) → (s ≡ Rounds KS (Schedule m 48) s 0) × (m ≡ drop 0 (Schedule m 0))
-unfolding Rounds Schedule
-turns-none m s = (refl, refl)
+-- no turn is left
+pub turned-all : (h : State) (m : List ℕ) (s : State) (ks ws : List ℕ) → Turned h m s ks ws → (length ks < 8) ⊎ (length ws < 8)
+    → s ≡ Rounds KS (Schedule m 48) h 64
+unfolding Rounds
+turned-all h m s ks ws x e =
+    let n : length ks ≡ 0 = elim e [ inl l ↦ omega (arith, x.eights) | inr l ↦ omega (arith, x.eights, x.same) ] in
+    sym (ap (Rounds ks ws s) n) ∙ x.whole

@@ -1,7 +1,7 @@
 // The block computation.
 
-ghost use Rattle.std.specs.Prelude.{◌≡◌, length, drop};
-ghost use Rattle.sha256.specs.Rounds.{Add, Compress, Extend, Listed, Round, Rounds, Schedule};
+ghost use Rattle.std.specs.Prelude.{◌≡◌, length};
+ghost use Rattle.sha256.specs.Rounds.{Add, Compress, Extend, Round, Rounds, Schedule};
 
 use crate::words::*;
 
@@ -74,6 +74,7 @@ static K: [u32; 64] = [
 ];
 
 // The eight working variables, or the eight words of a hash value.
+// Kept: eight names, which are the standard's; in an array they would be numbers.
 #[derive(Clone, Copy)]
 pub struct State {
     pub a: u32,
@@ -86,27 +87,7 @@ pub struct State {
     pub h: u32,
 }
 
-// Sixteen words of the schedule that stand side by side.
-#[derive(Clone, Copy)]
-pub struct Window {
-    pub w0: u32,
-    pub w1: u32,
-    pub w2: u32,
-    pub w3: u32,
-    pub w4: u32,
-    pub w5: u32,
-    pub w6: u32,
-    pub w7: u32,
-    pub w8: u32,
-    pub w9: u32,
-    pub w10: u32,
-    pub w11: u32,
-    pub w12: u32,
-    pub w13: u32,
-    pub w14: u32,
-    pub w15: u32,
-}
-
+#[tactic(auto, unfolding(crate::specs::Rounds::Extend))]
 fn extend(w16: u32, w15: u32, w7: u32, w2: u32) -> u32
     ensures { result ≡ Extend w16 w15 w7 w2 }
 {
@@ -116,6 +97,7 @@ fn extend(w16: u32, w15: u32, w7: u32, w2: u32) -> u32
         .wrapping_add(w16)
 }
 
+#[tactic(auto, unfolding(crate::specs::Rounds::Round))]
 fn round(s: State, k: u32, w: u32) -> State
     ensures { result ≡ Round s k w }
 {
@@ -140,81 +122,36 @@ fn round(s: State, k: u32, w: u32) -> State
     }
 }
 
-// A turn, and the word of the schedule that takes the place of the turn's own, `w16`.
-macro_rules! turn {
-    ($s:expr, $k:expr, $w16:expr, $w15:expr, $w7:expr, $w2:expr) => {
-        (round($s, $k, $w16), extend($w16, $w15, $w7, $w2))
-    };
-}
-
-fn turns(s: State, w: Window, k: &[u32]) -> (State, Window)
-    requires { length k.now ≡ 16 }
-    ensures state { result.0 ≡ Rounds k.now (Listed w) s 16 }
-    ensures words { Listed result.1 ≡ drop 16 (Schedule (Listed w) 16) }
+// Eight turns, after which each variable is back at its place.
+// Kept: written out, since SHA-256 runs at 0.88 of plain C with one turn a step, and at 1.08 so.
+#[tactic(auto, unfolding(crate::specs::Rounds::Rounds))]
+fn turns(s: State, k: &[u32], w: &[u32]) -> State
+    requires { (length k.now ≡ 8) × (length w.now ≡ 8) }
+    ensures { result ≡ Rounds k.now w.now s 8 }
 {
-    let (s, w0) = turn!(s, k[0], w.w0, w.w1, w.w9, w.w14);
-    let (s, w1) = turn!(s, k[1], w.w1, w.w2, w.w10, w.w15);
-    let (s, w2) = turn!(s, k[2], w.w2, w.w3, w.w11, w0);
-    let (s, w3) = turn!(s, k[3], w.w3, w.w4, w.w12, w1);
-    let (s, w4) = turn!(s, k[4], w.w4, w.w5, w.w13, w2);
-    let (s, w5) = turn!(s, k[5], w.w5, w.w6, w.w14, w3);
-    let (s, w6) = turn!(s, k[6], w.w6, w.w7, w.w15, w4);
-    let (s, w7) = turn!(s, k[7], w.w7, w.w8, w0, w5);
-    let (s, w8) = turn!(s, k[8], w.w8, w.w9, w1, w6);
-    let (s, w9) = turn!(s, k[9], w.w9, w.w10, w2, w7);
-    let (s, w10) = turn!(s, k[10], w.w10, w.w11, w3, w8);
-    let (s, w11) = turn!(s, k[11], w.w11, w.w12, w4, w9);
-    let (s, w12) = turn!(s, k[12], w.w12, w.w13, w5, w10);
-    let (s, w13) = turn!(s, k[13], w.w13, w.w14, w6, w11);
-    let (s, w14) = turn!(s, k[14], w.w14, w.w15, w7, w12);
-    let (s, w15) = turn!(s, k[15], w.w15, w0, w8, w13);
-    (
-        s,
-        Window {
-            w0,
-            w1,
-            w2,
-            w3,
-            w4,
-            w5,
-            w6,
-            w7,
-            w8,
-            w9,
-            w10,
-            w11,
-            w12,
-            w13,
-            w14,
-            w15,
-        },
-    )
+    let s = round(s, k[0], w[0]);
+    let s = round(s, k[1], w[1]);
+    let s = round(s, k[2], w[2]);
+    let s = round(s, k[3], w[3]);
+    let s = round(s, k[4], w[4]);
+    let s = round(s, k[5], w[5]);
+    let s = round(s, k[6], w[6]);
+    round(s, k[7], w[7])
 }
 
-// The last sixteen turns, after which no word is wanted.
-fn last_turns(s: State, w: Window, k: &[u32]) -> State
-    requires { length k.now ≡ 16 }
-    ensures { result ≡ Rounds k.now (Listed w) s 16 }
+// The words of all turns, of the sixteen of a block.
+fn schedule(block: &[u32; 16]) -> [u32; 64]
+    ensures { result ≡ Schedule block.now 48 }
 {
-    let s = round(s, k[0], w.w0);
-    let s = round(s, k[1], w.w1);
-    let s = round(s, k[2], w.w2);
-    let s = round(s, k[3], w.w3);
-    let s = round(s, k[4], w.w4);
-    let s = round(s, k[5], w.w5);
-    let s = round(s, k[6], w.w6);
-    let s = round(s, k[7], w.w7);
-    let s = round(s, k[8], w.w8);
-    let s = round(s, k[9], w.w9);
-    let s = round(s, k[10], w.w10);
-    let s = round(s, k[11], w.w11);
-    let s = round(s, k[12], w.w12);
-    let s = round(s, k[13], w.w13);
-    let s = round(s, k[14], w.w14);
-    let s = round(s, k[15], w.w15);
-    s
+    let mut w = [0u32; 64];
+    (&mut w[..16]).copy_from_slice(block);
+    for t in 0..48usize {
+        w[t + 16] = extend(w[t], w[t + 1], w[t + 9], w[t + 14]);
+    }
+    w
 }
 
+#[tactic(auto, unfolding(crate::specs::Rounds::Add))]
 fn add(s: State, t: State) -> State
     ensures { result ≡ Add s t }
 {
@@ -231,15 +168,13 @@ fn add(s: State, t: State) -> State
 }
 
 // The hash value after a block.
-pub(crate) fn compress(h: State, block: Window) -> State
-    ensures { result ≡ Compress h (Listed block) }
+pub(crate) fn compress(h: State, block: &[u32; 16]) -> State
+    ensures { result ≡ Compress h block.now }
 {
+    let w = schedule(block);
     let mut s = h;
-    let mut w = block;
-    for i in 0..3usize {
-        let (t, v) = turns(s, w, &K[16 * i..16 * i + 16]);
-        s = t;
-        w = v;
+    for (k, w) in K.chunks_exact(8).zip(w.chunks_exact(8)) {
+        s = turns(s, k, w);
     }
-    add(h, last_turns(s, w, &K[48..64]))
+    add(h, s)
 }

@@ -33,11 +33,13 @@ pub enum Error {
 pub struct Sha256 {
     state: State,
     // The bytes behind the last whole block: the first `total % 64`.
+    // Kept: an array beside its count, since a hash is Copy and allocates nothing.
     buffer: [u8; 64],
     total: u64,
 }
 
 impl Sha256 {
+    #[tactic(auto, unfolding(crate::specs::Message::After))]
     pub fn new() -> Sha256
         ensures { Holds result [] }
     {
@@ -65,7 +67,7 @@ impl Sha256 {
         let (first, rest) = part.split_at(64 - held);
         put(&mut self.buffer, held, first);
         self.state = blocks(blocks(self.state, &self.buffer), rest);
-        put(&mut self.buffer, 0, &rest[rest.len() / 64 * 64..]);
+        put(&mut self.buffer, 0, rest.chunks_exact(64).remainder());
         Ok(())
     }
 
@@ -83,12 +85,8 @@ pub fn digest(message: &[u8]) -> [u8; 32]
     requires { length message.now < 2 ^ 61 }
     ensures { result ≡ SHA256 message.now }
 {
-    let whole = message.len() / 64 * 64;
-    finished(
-        blocks(START, message),
-        &message[whole..],
-        message.len() as u64,
-    )
+    let rest = message.chunks_exact(64).remainder();
+    finished(blocks(START, message), rest, message.len() as u64)
 }
 
 // The digest of any message, or a refusal.

@@ -8,6 +8,7 @@ use crate::rounds::State;
 use octets::put;
 
 // `rest`, a bit 1, and zeros.
+#[tactic(auto, using(crate::proofs::Paddings::marked_is))]
 fn marked(rest: &[u8]) -> [u8; 128]
     requires { length rest.now < 64 }
     ensures { result ≡ rest.now ++ (128 ∷ replicate (127 - length rest.now) 0) }
@@ -38,8 +39,6 @@ pub(crate) fn finished(s: State, rest: &[u8], total: u64) -> [u8; 32]
 }
 
 // The padding of a message of any length ends with a block, and is as short as that allows.
-pub fn padding_fills() -> u8
+pub fn padding_fills()
     ensures { PaddingFills }
-{
-    0
-}
+{}

@@ -3,12 +3,14 @@
 ghost use Rattle.std.specs.Prelude.{◌≡◌};
 ghost use Rattle.sha256.specs.Words.{CH, MAJ, BSIG0, BSIG1, SSIG0, SSIG1};
 
+#[tactic(auto, using(crate::proofs::Bits::ch_is))]
 pub(crate) fn ch(x: u32, y: u32, z: u32) -> u32
     ensures { result ≡ CH x y z }
 {
     z ^ (x & (y ^ z))
 }
 
+#[tactic(auto, using(crate::proofs::Bits::maj_is))]
 pub(crate) fn maj(x: u32, y: u32, z: u32) -> u32
     ensures { result ≡ MAJ x y z }
 {

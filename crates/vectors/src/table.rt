@@ -4,39 +4,64 @@ ghost use Rattle.std.specs.Prelude.{◌≤◌, length};
 
 use crate::hex::Hex;
 use crate::streams::{COUNT, TWO};
-use hmac::Key;
-use sha256::{Sha256, hash};
-use std::io;
+use hmac::{Key, Mac};
+use sha256::{Error, Sha256, hash};
+use std::{array, io};
 
-// The digest by way of two parts, or none if it is not that of the whole.
-fn digest(part: &[u8], cut: usize) -> Option<[u8; 32]>
-    requires { cut ≤ length part.now }
-{
-    let mut parts = Sha256::new();
-    parts.update(&part[0..cut]).ok()?;
-    parts.update(&part[cut..part.len()]).ok()?;
-    let whole = hash(part).ok()?;
-    if octets::equal(&whole, &parts.finish()) {
-        Some(whole)
-    } else {
-        None
+// A digest or a tag under way.
+trait Hashing {
+    fn take(&mut self, part: &[u8]) -> Result<(), Error>;
+
+    fn answer(self) -> [u8; 32];
+}
+
+impl Hashing for Sha256 {
+    fn take(&mut self, part: &[u8]) -> Result<(), Error> {
+        self.update(part)
+    }
+
+    fn answer(self) -> [u8; 32] {
+        self.finish()
     }
 }
 
-// The tag by way of two parts, or none if it is not that of the whole; the key is the message.
+impl Hashing for Mac {
+    fn take(&mut self, part: &[u8]) -> Result<(), Error> {
+        self.update(part)
+    }
+
+    fn answer(self) -> [u8; 32] {
+        self.finish()
+    }
+}
+
+// The answer to the whole, if it is that by way of two parts.
+fn checked<H: Hashing + Drop>(
+    whole: [u8; 32],
+    mut hashing: H,
+    part: &[u8],
+    cut: usize,
+) -> Option<[u8; 32]>
+    requires { cut ≤ length part.now }
+{
+    let (first, second) = part.split_at(cut);
+    hashing.take(first).ok()?;
+    hashing.take(second).ok()?;
+    octets::equal(&whole, &hashing.answer()).then_some(whole)
+}
+
+fn digest(part: &[u8], cut: usize) -> Option<[u8; 32]>
+    requires { cut ≤ length part.now }
+{
+    checked(hash(part).ok()?, Sha256::new(), part, cut)
+}
+
+// The key is the message.
 fn tag(part: &[u8], cut: usize) -> Option<[u8; 32]>
     requires { cut ≤ length part.now }
 {
     let key = Key::new(part).ok()?;
-    let mut parts = key.start();
-    parts.update(&part[0..cut]).ok()?;
-    parts.update(&part[cut..part.len()]).ok()?;
-    let whole = key.tag(part).ok()?;
-    if octets::equal(&whole, &parts.finish()) {
-        Some(whole)
-    } else {
-        None
-    }
+    checked(key.tag(part).ok()?, key.start(), part, cut)
 }
 
 fn cipher(part: &mut [u8], counter: u32) -> Option<[u8; 32]> {
@@ -53,11 +78,7 @@ fn line(rt: &HostRuntime, part: &mut [u8], n: u32) -> io::Result<()> {
 }
 
 fn pattern() -> [u8; 300] {
-    let mut text = [0u8; 300];
-    for i in 0..300usize {
-        text[i] = ((7 * i + 3) % 256) as u8;
-    }
-    text
+    array::from_fn(|i| ((7 * i + 3) % 256) as u8)
 }
 
 pub(crate) fn lengths(rt: &HostRuntime) -> io::Result<()> {

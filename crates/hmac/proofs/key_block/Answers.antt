@@ -9,5 +9,5 @@ returns-then-key-le64 c =
 
 pub returns : goal.returns
 returns c =
-    let d = c.in_ok-digest.ensures in
+    let d = c.in_ok-hash.ensures in
     (d.0, c.padded-2.ensures ∙ ap Padded (d.1 ∙ long-is c.args.key.now c.if-key-le64.false))

@@ -1,15 +1,11 @@
-use Rattle.std.proofs.Common.{refl, arith}
-use Rattle.hmac.proofs.Pads.{done_all, done_more}
+use Rattle.std.proofs.Common.{bit_xor, sym, ◌∙◌, arith}
+use Rattle.std.proofs.lemmas.List.{ext_get_or, get_or-map, length-map}
+use Rattle.hmac.specs.Hmac.{Masked}
 use Rattle.hmac.proofs.masked.Goals as goal
-
-pub loop-i-init : goal.loop-i-init
-loop-i-init c = record { size = refl; bytes = λ k h. absurd (omega arith) }
-
-pub loop-i-preserved : goal.loop-i-preserved
-loop-i-preserved c =
-    done_more c.args.block.now c.loop-i.pad c.args.mask c.loop-i.i c.loop-i-test.true c.loop-i.invariant
 
 pub returns : goal.returns
 returns c =
-    done_all c.args.block.now c.loop-i.pad c.args.mask c.loop-i.i c.told-block c.loop-i-test.false
-    c.loop-i.invariant
+    let b = c.args.block.now in
+    let done = c.loop-byte.invariant in
+    ext_get_or 0 c.loop-byte.byte-items (Masked b c.args.mask) (done.size ∙ sym (length-map b _ ∙ c.told-block))
+    (λ k h. done.done k (omega arith) ∙ sym (get_or-map (λ x. bit_xor x c.args.mask) b k 0 0 (omega arith)))

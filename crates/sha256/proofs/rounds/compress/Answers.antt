@@ -1,38 +1,42 @@
-use Rattle.std.proofs.Common.{◌≡◌, ℕ, ◌+◌, ◌*◌, List, drop, refl, ap, ◌∙◌, arith}
-use Rattle.sha256.specs.Constants.{KS}
-use Rattle.sha256.specs.Rounds.{Add, Compress, Listed, Rounds, Schedule}
-use Rattle.sha256.proofs.Turns.{turns_more, turns-none, window_more}
+use Rattle.std.proofs.Common.{ap, ◌∙◌, inl, inr, arith}
+use Rattle.std.specs.Iterator.Adapters.{zip_first, zip_second}
+use Rattle.std.specs.Slice.Iter.{chunks_exact_rest, chunks_exact_size}
+use Rattle.sha256.specs.Rounds.{Add, Compress}
+use Rattle.sha256.proofs.Turns.{turned-none, turned_more, turned-all}
 use Rattle.sha256.proofs.rounds.compress.Goals as goal
 
-pub loop-i-init : goal.loop-i-init
-loop-i-init c = turns-none (Listed c.args.block) c.args.h
+pub loop-k-init : goal.loop-k-init
+loop-k-init c =
+    let e = c.into_iter-k-iterator.ensures.into_iter_gives in
+    let zip = c.zip-k-items.ensures in
+    let ks = c.chunks_exact.ensures in
+    let ws = c.chunks_exact-2.ensures in
+    let first = ap (λ x. zip_first x) e ∙ zip.first in
+    let second = ap (λ x. zip_second x) e ∙ zip.second in record {
+      first = ap (λ x. chunks_exact_size x) first ∙ ks.size;
+      second = ap (λ x. chunks_exact_size x) second ∙ ws.size;
+      turned = turned-none c.args.h c.args.block.now c.schedule-w.result _ _ c.schedule-w.ensures c.told-block
+          (ap (λ x. chunks_exact_rest x) first ∙ ks.rest)
+          (ap (λ x. chunks_exact_rest x) second ∙ ws.rest);
+    }
 
-pub loop-i-preserved : goal.loop-i-preserved
-loop-i-preserved c =
-    let m : List ℕ = Listed c.args.block in
-    let i : ℕ = c.loop-i.i in
-    let n : 16 * i + 16 ≡ 16 * (i + 1) = omega arith in
-    let w : Listed c.turns.result.1 ≡ drop (16 * i + 16) (Schedule m (16 * i + 16)) =
-    window_more m (16 * i) (Listed c.loop-i.w) (Listed c.turns.result.1) c.loop-i.invariant.1
-    c.turns.ensures.words in
-    let s : c.turns.result.0 ≡ Rounds KS (Schedule m 48) c.args.h (16 * i + 16) =
-    turns_more m c.args.h (16 * i) _ (Listed c.loop-i.w) c.loop-i.s c.turns.result.0 refl (omega arith)
-    (omega arith)
-    c.loop-i.invariant.0
-    c.loop-i.invariant.1
-    c.turns.ensures.state in (
-      s ∙ ap (Rounds KS (Schedule m 48) c.args.h) n,
-      w ∙ ap (λ (k : ℕ). drop k (Schedule m k)) n,
-    )
+pub loop-k-preserved : goal.loop-k-preserved
+loop-k-preserved c =
+    let k = c.in-Some.ensures.steps.0 in
+    let w = c.in-Some.ensures.steps.1 in
+    let was = c.loop-k.invariant in record {
+      first = k.0 ∙ was.first;
+      second = w.0 ∙ was.second;
+      turned = turned_more c.args.h c.args.block.now c.loop-k.s c.turns-s.result _ _ _ _ _ _ was.turned k.1.0 w.1.0 (k.1.1 ∙ was.first)
+          (w.1.1 ∙ was.second)
+          c.turns-s.ensures;
+    }
 
 pub returns : goal.returns
 unfolding Compress
 returns c =
-    let m : List ℕ = Listed c.args.block in
-    let i : 16 * c.loop-i.i ≡ 48 = omega arith in
+    let was = c.loop-k.invariant in
     c.add.ensures
     ∙ ap (Add c.args.h)
-    (turns_more m c.args.h 48 16 (Listed c.loop-i.w) c.loop-i.s c.last_turns.result refl (omega arith) refl
-    (c.loop-i.invariant.0 ∙ ap (Rounds KS (Schedule m 48) c.args.h) i)
-    (c.loop-i.invariant.1 ∙ ap (λ (k : ℕ). drop k (Schedule m k)) i)
-    c.last_turns.ensures)
+    (turned-all c.args.h c.args.block.now c.loop-k.s _ _ was.turned
+    (elim c.in-None.ensures.steps [ inl x ↦ inl (omega (arith, was.first, x.1.1.0)) | inr x ↦ inr (omega (arith, was.second, x.1.1.0)) ]))

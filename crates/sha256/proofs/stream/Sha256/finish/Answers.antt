@@ -1,6 +1,6 @@
 use Rattle.std.proofs.Common.{◌≡◌, ℕ, ◌-◌, ◌/◌, ◌%◌, List, ◌++◌, length, take, ap, ◌∙◌, arith}
 use Rattle.sha256.specs.Message.{After, Output, Padding}
-use Rattle.sha256.proofs.Streams.{digest-is}
+use Rattle.sha256.proofs.Streams.{digest_is}
 use Rattle.sha256.proofs.stream.Sha256.finish.Goals as goal
 
 pub returns : goal.returns
@@ -11,5 +11,5 @@ returns c = λ m h.
     ∙ ap
     (λ (n : ℕ). Output (After c.args.self.state (b ++ Padding n) (length (b ++ Padding n) / 64)))
     h.total
-    ∙ digest-is m b c.args.self.state h.state
+    ∙ digest_is m b c.args.self.state h.state
     (ap (λ (k : ℕ). take k c.args.self.buffer) e ∙ h.held)
