@@ -1,4 +1,3 @@
-pub mod Macs
+pub mod Turning
 pub mod Sealing
 pub mod Opened
-pub mod Refusing

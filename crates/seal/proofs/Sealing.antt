@@ -1,13 +1,15 @@
 -- A message sealed and opened in place.
 use Rattle.std.proofs.Common.{◌≡◌, ℕ, ◌+◌, ◌-◌, ◌≤◌, List, ◌∷◌, ◌++◌, length, get_or, take, drop, Some, sym, ap, ◌∙◌, subst, arith}
+use Rattle.std.proofs.lemmas.Grind.{common_steps}
 use Rattle.std.proofs.lemmas.List.FromFn.{length-map-range_with_len}
-use Rattle.std.proofs.lemmas.List.{append_assoc, drop-append-le, drop_at, drop-drop, length-append, length-drop, length-take-le, take-append-drop, take_at}
+use Rattle.std.proofs.lemmas.List.{append_assoc, drop-append-le, drop_at, drop-drop, length-drop, length-take-le, take-append-drop, take_at}
 use lib.Bits.{bit_xor}
 use Rattle.chacha20.specs.Cipher.{ChaCha20, Stream}
 use Rattle.hmac.specs.Hmac.{HMAC}
 use Rattle.sha256.specs.Message.{Bytes64}
 use Rattle.hmac.specs.Calls.{Takes}
-use Rattle.seal.specs.Frames.{Secret, body, body_of, bytes16, frame, opened, tag, tag_mark, tag_text, turned, way_key}
+use Rattle.seal.specs.declared.secret.Secret.{Secret}
+use Rattle.seal.specs.Frames.{body, bytes16, frame, opened, tag, tag_mark, tag_text, turned, way_key}
 use Rattle.seal.specs.Ways.{Stands, next_of}
 use Rattle.seal.specs.declared.way.Way.{Way}
 
@@ -17,11 +19,6 @@ length-turned s n text =
     length-map-range_with_len (λ i. bit_xor (get_or text i 0) (Stream (way_key s) 0 (0 ∷ 0 ∷ 0 ∷ 0 ∷ Bytes64 n) i)) 0 (length text)
 
 -- the first 16 bytes of a tag
-pub tag-of : (s : Secret) (n : ℕ) (f b t out : List ℕ) → b ≡ body_of f → out ≡ HMAC s.key (tag_text s n b) → t ≡ take 16 out
-    → t ≡ tag s n (body_of f)
-unfolding tag
-tag-of s n f b t out eb eo et = et ∙ ap (take 16) (eo ∙ ap (λ (v : List ℕ). HMAC s.key (tag_text s n v)) eb)
-
 tag_is : (s : Secret) (n : ℕ) (b c t out : List ℕ) → b ≡ c → out ≡ HMAC s.key (tag_text s n b) → t ≡ take 16 out → t ≡ tag s n c
 unfolding tag
 tag_is s n b c t out eb eo et = et ∙ ap (take 16) (eo ∙ ap (λ (v : List ℕ). HMAC s.key (tag_text s n v)) eb)
@@ -63,7 +60,7 @@ sealed-is s n size k old mid1 mid2 new head c bd out tg eh ek ls em1 ec em2 eb e
 
 -- the next number
 pub number_is : (w : Way) (s : Secret) (n number : ℕ) → Stands w s n → w.next ≡ Some number → number ≡ n
-number_is w s n number h e = ap next_of (sym e) ∙ h.next
+number_is w s n number h e = grind (arith, common_steps)
 
 pub advanced : (w v : Way) (s : Secret) (n number : ℕ) → Stands w s n → w.next ≡ Some number → v.key ≡ w.key → v.mac ≡ w.mac
     → next_of v.next ≡ number + 1
@@ -77,25 +74,11 @@ advanced w v s n number h e ek em en =
     }
 
 -- an inside put in the place of what was encrypted
-pub opened-is : (s : Secret) (n m k : ℕ) (old new c : List ℕ) → m + 18 ≡ length old → k ≡ m → c ≡ turned s n (take k (drop 2 old))
-    → new ≡ take 2 old ++ (c ++ drop k (drop 2 old))
-    → new ≡ take 2 old ++ (opened s n old ++ drop (2 + m) old)
-opened-is s n m k old new c em ek ec en =
-    let el : k ≡ length old - 18 = omega arith in
-    en ∙ (λ i. take 2 old ++ ((ec ∙ ap (λ (v : ℕ). turned s n (take v (drop 2 old))) el) i ++ (drop-drop k 2 old ∙ ap (λ (v : ℕ). drop (2 + v) old) ek) i))
-
 pub opened-at : (s : Secret) (n number m k : ℕ) (old new c : List ℕ) → number ≡ n → m + 18 ≡ length old → k ≡ m
     → c ≡ turned s number (take k (drop 2 old))
     → new ≡ take 2 old ++ (c ++ drop k (drop 2 old))
     → new ≡ take 2 old ++ (opened s n old ++ drop (2 + m) old)
-opened-at s n number m k old new c e em ek ec en =
-    opened-is s n m k old new c em ek (ec ∙ ap (λ (v : ℕ). turned s v (take k (drop 2 old))) e) en
-
--- a part that is written and then not changed
-pub unchanged : (k : ℕ) (old part : List ℕ) → part ≡ take k (drop 2 old) → take 2 old ++ (part ++ drop k (drop 2 old)) ≡ old
-unchanged k old part e =
-    ap (λ (v : List ℕ). take 2 old ++ (v ++ drop k (drop 2 old))) e ∙ ap (λ (v : List ℕ). take 2 old ++ v) (take-append-drop k (drop 2 old))
-    ∙ take-append-drop 2 old
+opened-at s n number m k old new c e em ek ec en = grind (arith, common_steps)
 
 -- an inside written behind the first two bytes
 module _ (k size : ℕ) (old mid part written : List ℕ) (lo : 18 ≤ length old) (lk : size ≤ length (take k (drop 2 old))) (es : size ≡ length written)
@@ -110,7 +93,7 @@ module _ (k size : ℕ) (old mid part written : List ℕ) (lo : 18 ≤ length ol
       ∙ ap (λ (v : List ℕ). written ++ v) (sym (drop-append-le size p d lk) ∙ ap (drop size) (take-append-drop k (drop 2 old)))
 
   pub inside-written : take size (drop 2 mid) ≡ written
-  inside-written = ap (take size) behind ∙ take_at written (drop size (drop 2 old)) size (sym es)
+  inside-written = grind (arith, common_steps)
 
   pub rest-written : drop (size + 18) mid ≡ drop (size + 18) old
   rest-written =
@@ -125,21 +108,7 @@ module _ (k size : ℕ) (old mid part written : List ℕ) (lo : 18 ≤ length ol
 -- lengths of what is written so
 pub size-within : (size : ℕ) (part new written : List ℕ) → size ≡ length written → new ≡ written ++ drop size part → length new ≡ length part
     → size ≤ length part
-size-within size part new written es e el =
-    omega (arith, ap length e, length-append written (drop size part), length-drop size part)
+size-within size part new written es e el = grind (arith, common_steps)
 
 pub length_part : (old : List ℕ) → 18 ≤ length old → length (take (length old - 16 - 2) (drop 2 old)) ≡ length old - 18
-length_part old l = length-take-le (length old - 16 - 2) (drop 2 old) (omega (arith, length-drop 2 old)) ∙ omega arith
-
-pub length-mid : (k : ℕ) (old part : List ℕ) → 2 ≤ length old → length part ≡ length (take k (drop 2 old))
-    → length (take 2 old ++ (part ++ drop k (drop 2 old))) ≡ length old
-length-mid k old part l e =
-    length-append (take 2 old) (part ++ drop k (drop 2 old))
-    ∙ omega (
-      arith,
-      length-take-le 2 old l,
-      length-append part (drop k (drop 2 old)),
-      length-append (take k (drop 2 old)) (drop k (drop 2 old)),
-      ap length (take-append-drop k (drop 2 old)),
-      length-drop 2 old,
-    )
+length_part old l = grind (arith, common_steps)

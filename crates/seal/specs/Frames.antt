@@ -3,18 +3,9 @@ use Rattle.std.specs.Prelude.{◌≡◌, ℕ, ◌+◌, ◌-◌, ◌*◌, ◌/◌
 use Rattle.chacha20.specs.Cipher.{ChaCha20}
 use Rattle.hmac.specs.Hmac.{HMAC}
 use Rattle.sha256.specs.Message.{Bytes64}
-use Rattle.seal.specs.declared.way.Direction.{Direction}
-use Rattle.seal.specs.declared.way.Direction.TheVariants.{There, Back}
-
--- what both sides know of one way of a connection: the connection's key, and what each side drew when it came up
-pub record Secret : Type 0 where
-  pub direction : Direction
-  pub key : List ℕ
-  pub client : List ℕ
-  pub server : List ℕ
-
-abbrev pub secret : Direction → (key client server : List ℕ) → Secret
-secret d k c s = record { direction = d; key = k; client = c; server = s }
+use Rattle.seal.specs.declared.secret.Direction.{Direction}
+use Rattle.seal.specs.declared.secret.Direction.TheVariants.{There, Back}
+use Rattle.seal.specs.declared.secret.Secret.{Secret}
 
 -- the byte before both nonces where a way's key is made, and where a tag is
 abbrev pub key_mark : Direction → ℕ

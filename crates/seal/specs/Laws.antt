@@ -1,6 +1,7 @@
 -- What sealing and opening promise together. Assumes nothing.
 use Rattle.std.specs.Prelude.{◌≡◌, ℕ, ◌^◌, ◌<◌, ◌≤◌, List, length}
-use Rattle.seal.specs.Frames.{Secret, Whole, Fits, frame, largest, opened}
+use Rattle.seal.specs.Frames.{Whole, Fits, frame, largest, opened}
+use Rattle.seal.specs.declared.secret.Secret.{Secret}
 
 pub record Returned (s : Secret) (n : ℕ) (text : List ℕ) : Type 0 where
   pub whole : Whole (frame s n text)

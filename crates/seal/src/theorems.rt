@@ -2,8 +2,6 @@
 ghost use Rattle.seal.specs.Laws.{OpensSealed};
 
 // What was sealed is opened.
-pub fn opens_sealed() -> u8
+pub fn opens_sealed()
     ensures { OpensSealed }
-{
-    0
-}
+{}

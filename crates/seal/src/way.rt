@@ -7,14 +7,10 @@ mod seals;
 mod sends;
 mod turns;
 
-#[derive(Clone, Copy)]
-pub enum Direction {
-    // to the server
-    There,
-    // to the client
-    Back,
-}
+// The most bytes of an inside: with length and tag a message has at most 1,100.
+pub const LARGEST: usize = 1082;
 
+// Kept: what a way stands for is no function of its fields, so contracts say it by `WhereStands`.
 #[derive(Clone, Copy)]
 pub struct Way {
     // of the cipher

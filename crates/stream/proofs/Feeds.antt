@@ -1,12 +1,15 @@
 -- A stream read byte by byte, and in pieces.
-use Rattle.std.proofs.Common.{◌≡◌, ℕ, ◌+◌, ◌-◌, ◌^◌, ◌<◌, ◌≤◌, Bool, true, false, cond, eqb, ltb, leb, ◌⊎◌, List, [], ◌∷◌, ◌++◌, length, get_or, take, Some, None, Option, sym, refl, ap, ◌∙◌, subst, inl, inr, arith, ltb-true, le-ltb, lt-ltb, eq-eqb, eqb-true, le-leb}
-use borrow.Author.Tests.{both_ways, lt-leb}
-use Rattle.std.proofs.lemmas.List.{append_assoc, append-nil, take_more}
-use Rattle.std.proofs.lemmas.Bool.{cases_Bool, cases_lt}
+use Rattle.std.proofs.Common.{◌≡◌, ℕ, ◌+◌, ◌-◌, ◌^◌, ◌<◌, ◌≤◌, Bool, true, false, cond, eqb, ltb, ◌⊎◌, List, [], ◌∷◌, ◌++◌, length, get_or, take, Some, None, Option, sym, refl, ap, ◌∙◌, subst, inl, inr, arith, ltb-true, lt-ltb, eq-eqb, eqb-true}
+use borrow.Author.Tests.{both_ways}
+use Rattle.std.proofs.lemmas.List.{append_assoc, append-nil}
+use Rattle.std.proofs.lemmas.Bool.{cases_Bool}
+use Rattle.std.proofs.lemmas.Bool.Decides.{nat_tests}
+use Rattle.std.proofs.lemmas.Grind.{common_steps}
 use Rattle.wire.specs.declared.fault.Fault.{Fault}
 use Rattle.wire.specs.declared.fault.Fault.TheVariants.{Length, Tag, Malformed}
-use Rattle.seal.specs.Frames.{Secret, Fits, Whole, body_of, largest, opened, size_at, tag, tag_of}
-use Rattle.stream.specs.Streams.{Got, arrived, fails, feed, got, is_long, is_right, is_whole, read, same, step, whole}
+use Rattle.seal.specs.declared.secret.Secret.{Secret}
+use Rattle.seal.specs.Frames.{Fits, Whole, body_of, largest, opened, size_at, tag, tag_of}
+use Rattle.stream.specs.Streams.{Got, arrived, fails, feed, got, is_right, read, same, step, whole}
 use Rattle.stream.specs.Readers.{Short}
 use Rattle.stream.proofs.Gathering.{short-front}
 
@@ -49,35 +52,6 @@ right-false s n f h = by (cases_Bool (is_right s n f))
     by (inl t) = absurd (h (right-fits s n f t))
     by (inr q) = q
 
--- bytes by their length
-guarded : (h : List ℕ) (b : Bool) → (2 ≤ length h → b ≡ false) → cond (ltb (length h) 2) false b ≡ false
-guarded h b f = by (cases_lt (length h) 2)
-  where
-    by : (length h < 2) ⊎ (2 ≤ length h) → cond (ltb (length h) 2) false b ≡ false
-    by (inl l) = ap (λ (v : Bool). cond v false b) (lt-ltb (length h) 2 l)
-    by (inr l) = ap (λ (v : Bool). cond v false b) (le-ltb (length h) 2 l) ∙ f l
-
-passed : (h : List ℕ) (b : Bool) → 2 ≤ length h → cond (ltb (length h) 2) false b ≡ b
-passed h b l = ap (λ (v : Bool). cond v false b) (le-ltb (length h) 2 l)
-
-short-not-long : (h : List ℕ) → Short h → is_long h ≡ false
-short-not-long h sh = guarded h (ltb largest (size_at h)) (λ l. le-ltb largest (size_at h) (sh.fits l).0)
-
-short-not-whole : (h : List ℕ) → Short h → is_whole h ≡ false
-short-not-whole h sh = guarded h (leb (size_at h + 18) (length h)) (λ l. lt-leb (size_at h + 18) (length h) (sh.fits l).1)
-
-whole-two : (h : List ℕ) → Whole h → 2 ≤ length h
-whole-two h w = omega (arith, w.size)
-
-whole-not-long : (h : List ℕ) → Whole h → is_long h ≡ false
-whole-not-long h w = passed h (ltb largest (size_at h)) (whole-two h w) ∙ le-ltb largest (size_at h) w.bound
-
-whole_is : (h : List ℕ) → Whole h → is_whole h ≡ true
-whole_is h w = passed h (leb (size_at h + 18) (length h)) (whole-two h w) ∙ le-leb (size_at h + 18) (length h) (omega (arith, w.size))
-
-long-is : (h : List ℕ) → length h ≡ 2 → largest < size_at h → is_long h ≡ true
-long-is h e l = passed h (ltb largest (size_at h)) (omega arith) ∙ lt-ltb largest (size_at h) l
-
 module _ (s : Secret) (known : List ℕ → Bool) where
   -- however the stream is cut
   pub feed-append : (g : Got) (a b : List ℕ) → feed s known g (a ++ b) ≡ feed s known (feed s known g a) b
@@ -105,9 +79,7 @@ module _ (s : Secret) (known : List ℕ → Bool) where
 
   arrived-short : (n : ℕ) (h : List ℕ) (t : List (List ℕ)) (o : Option Fault) (x : List ℕ) → Short x
       → arrived s known (got n h t o) x ≡ got n x t None
-  arrived-short n h t o x sh =
-      ap (λ (b : Bool). cond b (fails s known (got n h t o) Length) (cond (is_whole x) (whole s known (got n h t o) x) (got n x t None))) (short-not-long x sh)
-      ∙ ap (λ (b : Bool). cond b (whole s known (got n h t o) x) (got n x t None)) (short-not-whole x sh)
+  arrived-short n h t o x sh = grind (arith, nat_tests, sh.fits)
 
   -- bytes that make no message whole are held
   pub quiet : (n : ℕ) (h : List ℕ) (t : List (List ℕ)) (p : List ℕ) → Short (h ++ p) → feed s known (got n h t None) p ≡ got n (h ++ p) t None
@@ -120,19 +92,13 @@ module _ (s : Secret) (known : List ℕ → Bool) where
       ∙ quiet n x t p sx
       ∙ ap (λ (v : List ℕ). got n v t None) e
 
-  -- the last byte of a piece that is not empty
-  last_byte : (k : ℕ) (p : List ℕ) → 0 < k → k ≤ length p → take k p ≡ take (k - 1) p ++ get_or p (k - 1) 0 ∷ []
-  last_byte k p l u =
-      let e : k - 1 + 1 ≡ k = omega arith in
-      ap (λ (v : ℕ). take v p) (sym e) ∙ take_more p (k - 1) 0 (omega arith)
-
   -- up to the last byte, and with it
   pub at_last : (n : ℕ) (h : List ℕ) (t : List (List ℕ)) (p : List ℕ) (k : ℕ) → 0 < k → k ≤ length p → Short (h ++ take (k - 1) p)
       → feed s known (got n h t None) (take k p) ≡ arrived s known (got n (h ++ take (k - 1) p) t None) (h ++ take k p)
   at_last n h t p k l u sh =
       let q : List ℕ = take (k - 1) p in
       let b : ℕ = get_or p (k - 1) 0 in
-      let e : take k p ≡ q ++ b ∷ [] = last_byte k p l u in
+      let e : take k p ≡ q ++ b ∷ [] = grind (arith, common_steps) in
       ap (feed s known (got n h t None)) e ∙ feed-append (got n h t None) q (b ∷ [])
       ∙ ap (λ (g : Got). feed s known g (b ∷ [])) (quiet n h t q sh)
       ∙ feed-one (got n (h ++ q) t None) b
@@ -140,14 +106,11 @@ module _ (s : Secret) (known : List ℕ → Bool) where
 
   -- a whole message, and one that is too long
   pub at-whole : (n : ℕ) (h : List ℕ) (t : List (List ℕ)) (x : List ℕ) → Whole x → arrived s known (got n h t None) x ≡ whole s known (got n h t None) x
-  at-whole n h t x w =
-      ap (λ (b : Bool). cond b (fails s known (got n h t None) Length) (cond (is_whole x) (whole s known (got n h t None) x) (got n x t None))) (whole-not-long x w)
-      ∙ ap (λ (b : Bool). cond b (whole s known (got n h t None) x) (got n x t None)) (whole_is x w)
+  at-whole n h t x w = grind (arith, nat_tests)
 
   pub at_long : (n : ℕ) (h : List ℕ) (t : List (List ℕ)) (x : List ℕ) → length x ≡ 2 → largest < size_at x
       → arrived s known (got n h t None) x ≡ got n [] t (Some Length)
-  at_long n h t x e l =
-      ap (λ (b : Bool). cond b (fails s known (got n h t None) Length) (cond (is_whole x) (whole s known (got n h t None) x) (got n x t None))) (long-is x e l)
+  at_long n h t x e l = grind (arith, nat_tests)
 
   -- a whole message is taken, or a fault
   pub whole-taken : (n : ℕ) (h : List ℕ) (t : List (List ℕ)) (x y : List ℕ) → Fits s n x → y ≡ opened s n x → known y ≡ true

@@ -1,47 +1,27 @@
 -- What is taken is a prefix of what was sent, or a forged message is at hand.
-use Rattle.std.proofs.Common.{◌≡◌, ℕ, suc, ◌+◌, ◌<◌, ◌≤◌, Bool, true, false, cond, ltb, leb, ◌⊎◌, List, [], ◌∷◌, ◌++◌, length, drop, Some, None, Option, sym, refl, ap, ◌∙◌, subst, inl, inr, arith, ltb-false, le-ltb, lt-ltb, leb-false, leb-true}
+use Rattle.std.proofs.Common.{◌≡◌, ℕ, suc, ◌+◌, ◌≤◌, Bool, true, false, cond, ◌⊎◌, List, [], ◌∷◌, ◌++◌, length, drop, Some, None, Option, sym, refl, ap, ◌∙◌, subst, inl, inr, arith}
 use borrow.Author.Tests.{both_ways}
 use Rattle.std.proofs.lemmas.List.{append_assoc, append-nil, drop_at, length-append, length_push}
-use Rattle.std.proofs.lemmas.Bool.{cases_lt}
+use Rattle.std.proofs.lemmas.Bool.Decides.{nat_tests}
+use Rattle.std.proofs.lemmas.Grind.{common_steps}
 use Rattle.wire.specs.declared.fault.Fault.{Fault}
 use Rattle.wire.specs.declared.fault.Fault.TheVariants.{Length, Tag, Malformed}
-use Rattle.seal.specs.Frames.{Secret, Fits, Whole as IsWhole, frame, largest, opened, size_at}
+use Rattle.seal.specs.declared.secret.Secret.{Secret}
+use Rattle.seal.specs.Frames.{Fits, Whole as IsWhole, frame, largest, opened}
 use Rattle.seal.proofs.Opened.{length-frame, opens-sealed}
 use Rattle.stream.specs.Streams.{Got, feed, got, is_long, is_right, is_whole, read, same, start, step, step_in, whole}
 use Rattle.stream.specs.Readers.{Short}
 use Rattle.stream.specs.Promises.{Forged, Genuine, Prefix}
-use Rattle.stream.proofs.Gathering.{few, size-append}
+use Rattle.stream.proofs.Gathering.{few}
 use Rattle.stream.proofs.Feeds.{right-fits, same_refl, same_true}
-
--- by their length
-long-false : (h : List ℕ) → is_long h ≡ false → 2 ≤ length h → size_at h ≤ largest
-long-false h e l = ltb-false largest (size_at h) (sym (ap (λ (v : Bool). cond v false (ltb largest (size_at h))) (le-ltb (length h) 2 l)) ∙ e)
-
-whole-false : (h : List ℕ) → is_whole h ≡ false → 2 ≤ length h → length h < size_at h + 18
-whole-false h e l = leb-false (size_at h + 18) (length h) (sym (ap (λ (v : Bool). cond v false (leb (size_at h + 18) (length h))) (le-ltb (length h) 2 l)) ∙ e)
-
-whole-true : (h : List ℕ) → is_whole h ≡ true → (2 ≤ length h) × (size_at h + 18 ≤ length h)
-whole-true h e = by (cases_lt (length h) 2)
-  where
-    by : (length h < 2) ⊎ (2 ≤ length h) → (2 ≤ length h) × (size_at h + 18 ≤ length h)
-    by (inl l) =
-        absurd (both_ways false refl (sym (ap (λ (v : Bool). cond v false (leb (size_at h + 18) (length h))) (lt-ltb (length h) 2 l)) ∙ e))
-    by (inr l) = (l, leb-true (size_at h + 18) (length h) (sym (ap (λ (v : Bool). cond v false (leb (size_at h + 18) (length h))) (le-ltb (length h) 2 l)) ∙ e))
 
 -- one more byte makes a message whole
 now-whole : (h : List ℕ) (b : ℕ) → Short h → is_long (h ++ b ∷ []) ≡ false → is_whole (h ++ b ∷ []) ≡ true → IsWhole (h ++ b ∷ [])
 now-whole h b sh el ew =
-    let x : List ℕ = h ++ b ∷ [] in
-    let t = whole-true x ew in
-    let lx : length x ≡ length h + 1 = length_push h b in
-    let t1 : size_at x + 18 ≤ length x = t.1 in
-    let l : 2 ≤ length h = omega arith in
-    let ez : size_at x ≡ size_at h = size-append h (b ∷ []) l in
-    let f1 : length h < size_at h + 18 = (sh.fits l).1 in
-    record { size = omega arith; bound = long-false x el t.0 }
+    record { size = grind (arith, common_steps, nat_tests, sh.fits); bound = grind (arith, common_steps, nat_tests) }
 
 still-short : (x : List ℕ) → is_long x ≡ false → is_whole x ≡ false → Short x
-still-short x el ew = record { fits = λ l. (long-false x el l, whole-false x ew l) }
+still-short x el ew = record { fits = λ l. (grind (arith, nat_tests), grind (arith, nat_tests)) }
 
 pub forged-more : (s : Secret) (sent : List (List ℕ)) (a b : List ℕ) → Forged s sent a → Forged s sent (a ++ b)
 forged-more s sent a b f =
@@ -67,7 +47,7 @@ module _ (s : Secret) (known : List ℕ → Bool) (sent : List (List ℕ)) where
     pub short : g.fault ≡ None → Short g.held
 
   some-none : (f : Fault) → Some f ≡ None → ⊥
-  some-none f q = let z : ◌≡◌ {A = ℕ} 0 1 = cc in omega arith
+  some-none f q = cc
 
   -- a fault
   failed : (done : List ℕ) (n : ℕ) (h : List ℕ) (t : List (List ℕ)) (f : Fault) → Prefix t sent → Inv done (got n h t (Some f))

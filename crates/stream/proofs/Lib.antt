@@ -1,4 +1,3 @@
-pub mod Holding
 pub mod Gathering
 pub mod Feeds
 pub mod Receiving

@@ -3,7 +3,7 @@ use Rattle.std.proofs.Common.{◌≡◌, ℕ, Bool, ◌⊎◌, List, [], ◌∷�
 use Rattle.std.proofs.lemmas.List.{map-append}
 use Rattle.wire.specs.Inside.{GoodToClient, GoodToServer, known_to_client, known_to_server, to_client_by, to_client_bytes, to_server_by, to_server_bytes}
 use Rattle.wire.specs.Back.{to-client-back, to-server-back}
-use Rattle.seal.specs.Frames.{Secret}
+use Rattle.seal.specs.declared.secret.Secret.{Secret}
 use Rattle.stream.specs.Streams.{feed, start}
 use Rattle.stream.specs.Promises.{EachGood, Forged, GenuineToClient, GenuineToServer, Prefix}
 use Rattle.stream.proofs.Genuinely.{genuine}

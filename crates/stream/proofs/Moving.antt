@@ -5,9 +5,10 @@ use Rattle.std.proofs.lemmas.List.{drop_at, length-append, take_at}
 use Rattle.wire.specs.declared.fault.Fault.TheVariants.{Tag}
 use Rattle.hmac.specs.Hmac.{HMAC}
 use Rattle.sha256.specs.Message.{Bytes64}
-use Rattle.seal.specs.Frames.{Secret, body, frame, tag, tag_mark, tag_text}
-use Rattle.seal.specs.declared.way.Direction.{Direction}
-use Rattle.seal.specs.declared.way.Direction.TheVariants.{There, Back}
+use Rattle.seal.specs.declared.secret.Secret.{Secret}
+use Rattle.seal.specs.Frames.{body, frame, tag, tag_mark, tag_text}
+use Rattle.seal.specs.declared.secret.Direction.{Direction}
+use Rattle.seal.specs.declared.secret.Direction.TheVariants.{There, Back}
 use Rattle.seal.proofs.Opened.{length-tag}
 use Rattle.stream.specs.Streams.{feed, got, same, start}
 use Rattle.stream.specs.Promises.{Collision, Forged, Moved, Place, SamePlace, sealed_from}
@@ -111,7 +112,7 @@ collides s v n k x y p q ek ne e =
 
 pub moved : Moved
 moved s v known first [] k y ms p q ly ek ne =
-    by (misplaced s known first [] (frame v k y) ms (omega (arith, p.number)) (whole_of v k y ly) (λ x rest e f. let z : ◌≡◌ {A = ℕ} 0 1 = cc in absurd (omega arith)))
+    by (misplaced s known first [] (frame v k y) ms (omega (arith, p.number)) (whole_of v k y ly) (λ x rest e f. absurd cc))
   where
     by : (feed s known start (sealed_from s 0 first ++ frame v k y) ≡ got (length first) [] first (Some Tag)) ⊎ Forged s (first ++ []) (sealed_from s 0 first ++ frame v k y)
         → (feed s known start (sealed_from s 0 first ++ frame v k y) ≡ got (length first) [] first (Some Tag)) ⊎ (Forged s (first ++ []) (sealed_from s 0 first ++ frame v k y) ⊎ Collision s.key)

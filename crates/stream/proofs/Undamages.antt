@@ -1,33 +1,26 @@
 -- A stream without damage, and one with a message in the wrong place.
-use Rattle.std.proofs.Common.{◌≡◌, ℕ, suc, ◌+◌, ◌-◌, ◌^◌, ◌<◌, ◌≤◌, Bool, true, false, cond, ◌⊎◌, List, [], ◌∷◌, ◌++◌, length, take, drop, Some, None, sym, refl, ap, ◌∙◌, subst, inl, inr, arith}
-use Rattle.std.proofs.lemmas.List.{append_assoc, append-nil, drop_at, length-append, length-drop, take_all, take-append-drop}
+use Rattle.std.proofs.Common.{◌≡◌, ℕ, suc, ◌+◌, ◌-◌, ◌^◌, ◌<◌, ◌≤◌, Bool, true, false, cond, ◌⊎◌, List, [], ◌∷◌, ◌++◌, length, take, drop, Some, None, sym, refl, ap, ◌∙◌, inl, inr, arith}
+use Rattle.std.proofs.lemmas.List.{append_assoc, append-nil, drop_at, length-drop, take_all, take-append-drop}
 use Rattle.std.proofs.lemmas.Bool.{cases_Bool}
+use Rattle.std.proofs.lemmas.Grind.{common_steps}
 use Rattle.wire.specs.declared.fault.Fault.TheVariants.{Tag}
-use Rattle.seal.specs.Frames.{Secret, Whole, frame, largest, opened, size_at}
+use Rattle.seal.specs.declared.secret.Secret.{Secret}
+use Rattle.seal.specs.Frames.{Whole, frame, largest, opened, size_at}
 use Rattle.seal.proofs.Opened.{length-frame, opens-sealed}
 use Rattle.stream.specs.Streams.{Got, arrived, feed, got, is_right, read, start, whole}
 use Rattle.stream.specs.Readers.{Short}
 use Rattle.stream.specs.Promises.{CutIsShort, Forged, Messages, Misplaced, Undamaged, sealed_from}
-use Rattle.stream.proofs.Gathering.{few, size-append}
+use Rattle.stream.proofs.Gathering.{few}
 use Rattle.stream.proofs.Feeds.{at_last, at-whole, feed-append, quiet, right-fits, whole-taken}
 
 -- all but some of a whole message
 front-short : (f part rest : List ℕ) → Whole f → part ++ rest ≡ f → 0 < length rest → Short part
-front-short f part rest w e l =
-    record {
-      fits = λ k.
-          let lf : length f ≡ length part + length rest = ap length (sym e) ∙ length-append part rest in
-          let ez : size_at f ≡ size_at part = ap size_at (sym e) ∙ size-append part rest k in
-          let w0 : length f ≡ size_at f + 18 = w.size in
-          let w1 : size_at f ≤ largest = w.bound in
-          (omega arith, omega arith);
-    }
+front-short f part rest w e l = record { fits = λ k. grind (arith, common_steps) }
 
 pub whole_of : (s : Secret) (n : ℕ) (x : List ℕ) → length x ≤ largest → Whole (frame s n x)
 whole_of s n x l =
-    let lf : length (frame s n x) ≡ length x + 18 = length-frame s n x in
-    let sz : size_at (frame s n x) ≡ length x = omega arith in
-    record { size = lf ∙ ap (λ (v : ℕ). v + 18) (sym sz); bound = subst (λ (v : ℕ). v ≤ largest) (sym sz) l }
+    let e : length (frame s n x) ≡ length x + 18 = length-frame s n x in
+    record { size = grind (arith, common_steps); bound = grind (arith, common_steps) }
 
 pub cut-is-short : CutIsShort
 cut-is-short s n x part rest l e k = front-short (frame s n x) part rest (whole_of s n x l) e k

@@ -4,7 +4,8 @@ use Rattle.hmac.specs.Hmac.{HMAC}
 use Rattle.model.specs.Messages.{ToClient, ToServer}
 use Rattle.wire.specs.Inside.{GoodToClient, GoodToServer, known_to_client, known_to_server, to_client_by, to_client_bytes, to_server_by, to_server_bytes}
 use Rattle.wire.specs.declared.fault.Fault.TheVariants.{Tag}
-use Rattle.seal.specs.Frames.{Secret, Fits, Whole, frame, largest}
+use Rattle.seal.specs.declared.secret.Secret.{Secret}
+use Rattle.seal.specs.Frames.{Fits, Whole, frame, largest}
 use Rattle.stream.specs.Streams.{feed, got, start}
 use Rattle.stream.specs.Readers.{Short}
 

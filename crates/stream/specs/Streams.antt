@@ -2,7 +2,8 @@
 use Rattle.std.specs.Prelude.{ℕ, ◌+◌, ◌^◌, Bool, true, false, cond, List, [], ◌∷◌, ◌++◌, length, Some, None, Option, ◌==◌, nat_le, nat_lt}
 use Rattle.wire.specs.declared.fault.Fault.{Fault}
 use Rattle.wire.specs.declared.fault.Fault.TheVariants.{Length, Tag, Malformed}
-use Rattle.seal.specs.Frames.{Secret, body_of, largest, opened, size_at, tag, tag_of}
+use Rattle.seal.specs.declared.secret.Secret.{Secret}
+use Rattle.seal.specs.Frames.{body_of, largest, opened, size_at, tag, tag_of}
 
 -- number: how many messages are taken; held: the bytes behind the last of them; taken: their insides; fault: why nothing more is taken
 pub record Got : Type 0 where

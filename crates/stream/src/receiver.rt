@@ -1,4 +1,7 @@
 // The receiving end of one way: bytes in, messages out.
+ghost use Rattle.std.specs.Prelude.{◌≡◌, None};
+ghost use Rattle.stream.specs.Readers.{held_of, Short};
+
 use crate::reader::Reader;
 use seal::way::Way;
 use wire::fault::Fault;
@@ -11,14 +14,5 @@ pub struct Receiver {
     reader: Reader,
     // why nothing more is taken
     fault: Option<Fault>,
-}
-
-// What comes of a piece of the stream.
-pub enum Step<M> {
-    // all of it is taken in, and more is needed
-    More,
-    // a message, and how many bytes of the piece are taken in
-    Message(M, usize),
-    // the connection is to be cut
-    Fault(Fault),
+    ghost short: { fault ≡ None → Short (held_of reader) },
 }

@@ -1,10 +1,16 @@
 -- A message's inside as bytes: its kind, its channel, then its fields, the high byte first. Assumes nothing.
-use Rattle.std.specs.Prelude.{◌≡◌, ℕ, ◌+◌, ◌*◌, ◌/◌, ◌%◌, ◌^◌, ◌<◌, ◌≤◌, Bool, true, false, cond, ◌&&◌, List, [], ◌∷◌, length, drop, ◌==◌, nat_le, nat_lt, slice_index}
+use Rattle.std.specs.Prelude.{◌≡◌, ℕ, ◌+◌, ◌*◌, ◌/◌, ◌%◌, ◌^◌, ◌<◌, ◌≤◌, ◌⊎◌, Bool, true, false, cond, ◌&&◌, List, [], ◌∷◌, length, drop, ◌==◌, nat_le, nat_lt, slice_index}
+use Rattle.wire.specs.Kinds.{IsNoKind, kind_number}
+use Rattle.wire.specs.declared.kind.Kind.TheVariants as kind
 use Rattle.model.specs.Messages.{Request, Run, Input, OutputCredit, Eof, Close, Reply, Runs, Output, InputCredit, Exit, ToServer, Login, Tick, For, ToClient, Accepted, Tock, Of}
 
 -- a kind, a channel, and the rest
 abbrev pub inside : ℕ → ℕ → List ℕ → List ℕ
 inside kind channel rest = kind ∷ (channel / 256 % 256) ∷ (channel % 256) ∷ rest
+
+-- no kind and channel stand at the front
+abbrev pub IsHeadless : List ℕ → Type 0
+IsHeadless bs = (length bs < 3) ⊎ IsNoKind (slice_index bs 0)
 
 -- a number of 32 bits
 abbrev pub bytes32 : ℕ → List ℕ
@@ -19,11 +25,11 @@ flag false = 0
 
 -- To the server.
 abbrev pub request_kind : Request → ℕ
-request_kind (Run k) = 2
-request_kind (Input bs) = 3
-request_kind (OutputCredit n) = 4
-request_kind Eof = 5
-request_kind Close = 6
+request_kind (Run k) = kind_number kind.Run
+request_kind (Input bs) = kind_number kind.Input
+request_kind (OutputCredit n) = kind_number kind.OutputCredit
+request_kind Eof = kind_number kind.Eof
+request_kind Close = kind_number kind.Close
 
 abbrev pub request_rest : Request → List ℕ
 request_rest (Run k) = k ∷ []
@@ -33,16 +39,16 @@ request_rest Eof = []
 request_rest Close = []
 
 abbrev pub to_server_bytes : ToServer → List ℕ
-to_server_bytes (Login u p) = inside 1 0 (u ∷ p)
-to_server_bytes Tick = inside 7 0 []
+to_server_bytes (Login u p) = inside (kind_number kind.Login) 0 (u ∷ p)
+to_server_bytes Tick = inside (kind_number kind.Tick) 0 []
 to_server_bytes (For t q) = inside (request_kind q) t (request_rest q)
 
 -- Back.
 abbrev pub reply_kind : Reply → ℕ
-reply_kind (Runs b) = 17
-reply_kind (Output bs) = 18
-reply_kind (InputCredit n) = 19
-reply_kind (Exit s) = 20
+reply_kind (Runs b) = kind_number kind.Runs
+reply_kind (Output bs) = kind_number kind.Output
+reply_kind (InputCredit n) = kind_number kind.InputCredit
+reply_kind (Exit s) = kind_number kind.Exit
 
 abbrev pub reply_rest : Reply → List ℕ
 reply_rest (Runs b) = flag b ∷ []
@@ -51,8 +57,8 @@ reply_rest (InputCredit n) = bytes32 n
 reply_rest (Exit s) = s ∷ []
 
 abbrev pub to_client_bytes : ToClient → List ℕ
-to_client_bytes (Accepted b) = inside 16 0 (flag b ∷ [])
-to_client_bytes Tock = inside 21 0 []
+to_client_bytes (Accepted b) = inside (kind_number kind.Accepted) 0 (flag b ∷ [])
+to_client_bytes Tock = inside (kind_number kind.Tock) 0 []
 to_client_bytes (Of t m) = inside (reply_kind m) t (reply_rest m)
 
 -- What can be sent: each number fits its bytes; input and output have 1 to 1,024 bytes; a credit and a user are not 0; a login's proof has 32 bytes.
@@ -62,6 +68,9 @@ IsPart bs = (0 < length bs) × (length bs ≤ 1024)
 abbrev pub IsCredit : ℕ → Type 0
 IsCredit n = (0 < n) × (n < 2 ^ 32)
 
+abbrev pub IsLogin : (user : ℕ) (proof : List ℕ) → Type 0
+IsLogin u p = (0 < u) × (u < 256) × (length p ≡ 32)
+
 abbrev pub GoodRequest : Request → Type 0
 GoodRequest (Run k) = k < 256
 GoodRequest (Input bs) = IsPart bs
@@ -70,7 +79,7 @@ GoodRequest Eof = Unit {0}
 GoodRequest Close = Unit {0}
 
 abbrev pub GoodToServer : ToServer → Type 0
-GoodToServer (Login u p) = (0 < u) × (u < 256) × (length p ≡ 32)
+GoodToServer (Login u p) = IsLogin u p
 GoodToServer Tick = Unit {0}
 GoodToServer (For t q) = (t < 65536) × GoodRequest q
 
@@ -106,17 +115,17 @@ known_login rest = length rest == 33 && nat_lt 0 (slice_index rest 0)
 
 abbrev pub known_request : (kind : ℕ) → List ℕ → Bool
 known_request k rest =
-    cond (k == 2) (known_byte rest) (cond (k == 3) (known_part rest) (cond (k == 4) (known_credit rest) (cond (k == 5) (known_none rest) (cond (k == 6) (known_none rest) false))))
+    cond (k == kind_number kind.Run) (known_byte rest) (cond (k == kind_number kind.Input) (known_part rest) (cond (k == kind_number kind.OutputCredit) (known_credit rest) (cond (k == kind_number kind.Eof) (known_none rest) (cond (k == kind_number kind.Close) (known_none rest) false))))
 
 abbrev pub known_reply : (kind : ℕ) → List ℕ → Bool
 known_reply k rest =
-    cond (k == 17) (known_flag rest) (cond (k == 18) (known_part rest) (cond (k == 19) (known_credit rest) (cond (k == 20) (known_byte rest) false)))
+    cond (k == kind_number kind.Runs) (known_flag rest) (cond (k == kind_number kind.Output) (known_part rest) (cond (k == kind_number kind.InputCredit) (known_credit rest) (cond (k == kind_number kind.Exit) (known_byte rest) false)))
 
 abbrev pub known_server : (kind channel : ℕ) → List ℕ → Bool
-known_server k t rest = cond (k == 1) (t == 0 && known_login rest) (cond (k == 7) (t == 0 && known_none rest) (known_request k rest))
+known_server k t rest = cond (k == kind_number kind.Login) (t == 0 && known_login rest) (cond (k == kind_number kind.Tick) (t == 0 && known_none rest) (known_request k rest))
 
 abbrev pub known_client : (kind channel : ℕ) → List ℕ → Bool
-known_client k t rest = cond (k == 16) (t == 0 && known_flag rest) (cond (k == 21) (t == 0 && known_none rest) (known_reply k rest))
+known_client k t rest = cond (k == kind_number kind.Accepted) (t == 0 && known_flag rest) (cond (k == kind_number kind.Tock) (t == 0 && known_none rest) (known_reply k rest))
 
 abbrev pub known_by : (ℕ → ℕ → List ℕ → Bool) → List ℕ → Bool
 known_by known bs = cond (nat_lt (length bs) 3) false (known (slice_index bs 0) (slice_index bs 1 * 256 + slice_index bs 2) (drop 3 bs))
@@ -129,16 +138,16 @@ known_to_client = known_by known_client
 
 -- The message that bytes stand for, by their kind alone.
 abbrev pub request_by : (kind : ℕ) → List ℕ → Request
-request_by k rest = cond (k == 2) (Run (slice_index rest 0)) (cond (k == 3) (Input rest) (cond (k == 4) (OutputCredit (number32 rest)) (cond (k == 5) Eof Close)))
+request_by k rest = cond (k == kind_number kind.Run) (Run (slice_index rest 0)) (cond (k == kind_number kind.Input) (Input rest) (cond (k == kind_number kind.OutputCredit) (OutputCredit (number32 rest)) (cond (k == kind_number kind.Eof) Eof Close)))
 
 abbrev pub reply_by : (kind : ℕ) → List ℕ → Reply
-reply_by k rest = cond (k == 17) (Runs (slice_index rest 0 == 1)) (cond (k == 18) (Output rest) (cond (k == 19) (InputCredit (number32 rest)) (Exit (slice_index rest 0))))
+reply_by k rest = cond (k == kind_number kind.Runs) (Runs (slice_index rest 0 == 1)) (cond (k == kind_number kind.Output) (Output rest) (cond (k == kind_number kind.InputCredit) (InputCredit (number32 rest)) (Exit (slice_index rest 0))))
 
 abbrev pub to_server_by : List ℕ → ToServer
-to_server_by bs = cond (slice_index bs 0 == 1) (Login (slice_index bs 3) (drop 4 bs)) (cond (slice_index bs 0 == 7) Tick (For (slice_index bs 1 * 256 + slice_index bs 2) (request_by (slice_index bs 0) (drop 3 bs))))
+to_server_by bs = cond (slice_index bs 0 == kind_number kind.Login) (Login (slice_index bs 3) (drop 4 bs)) (cond (slice_index bs 0 == kind_number kind.Tick) Tick (For (slice_index bs 1 * 256 + slice_index bs 2) (request_by (slice_index bs 0) (drop 3 bs))))
 
 abbrev pub to_client_by : List ℕ → ToClient
-to_client_by bs = cond (slice_index bs 0 == 16) (Accepted (slice_index bs 3 == 1)) (cond (slice_index bs 0 == 21) Tock (Of (slice_index bs 1 * 256 + slice_index bs 2) (reply_by (slice_index bs 0) (drop 3 bs))))
+to_client_by bs = cond (slice_index bs 0 == kind_number kind.Accepted) (Accepted (slice_index bs 3 == 1)) (cond (slice_index bs 0 == kind_number kind.Tock) Tock (Of (slice_index bs 1 * 256 + slice_index bs 2) (reply_by (slice_index bs 0) (drop 3 bs))))
 
 -- Writing and reading are each other's inverse: what is written is read back, so that two messages are never written alike; and what is written is known.
 abbrev pub ToServerBack : Type 0

@@ -12,12 +12,12 @@ pub enum Fault {
     Malformed,
 }
 
-impl Fault {
-    // Its number in the table of faults.
-    pub fn number(self) -> u8
-        ensures { result ≡ fault_number self }
-    {
-        match self {
+// Its number in the table of faults.
+impl From<Fault> for u8 {
+    ghost from_gives = { λ fault n. n ≡ fault_number fault };
+
+    fn from(fault: Fault) -> u8 {
+        match fault {
             Fault::Length => 1,
             Fault::Tag => 2,
             Fault::Malformed => 3,

@@ -3,10 +3,11 @@
 
 pub mod codec;
 pub mod fault;
+mod field;
 mod fields;
-mod head;
+pub mod head;
+pub mod kind;
 pub mod theorems;
-pub mod to_client;
-pub mod to_server;
+mod to_client;
+mod to_server;
 pub mod unwritten;
-mod write;

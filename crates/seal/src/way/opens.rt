@@ -3,8 +3,8 @@ ghost use Rattle.std.specs.Prelude.{◌≡◌, ◌+◌, length, MatchOption};
 ghost use Rattle.seal.specs.Frames.{Whole as IsWhole};
 ghost use Rattle.seal.specs.Ways.{Opens};
 
-use crate::way::Way;
 use crate::way::turns::after;
+use crate::way::{LARGEST, Way};
 use wire::fault::Fault;
 
 // The length of a whole message's inside.
@@ -14,14 +14,8 @@ fn inside(frame: &[u8]) -> Option<usize>
     let [high, low, ..] = frame else {
         return None;
     };
-    let size = u16::from_be_bytes([*high, *low]) as usize;
-    if size > 1082 {
-        return None;
-    }
-    if frame.len() != size + 18 {
-        return None;
-    }
-    Some(size)
+    let size = usize::from(u16::from_be_bytes([*high, *low]));
+    (size <= LARGEST && frame.len() == size + 18).then_some(size)
 }
 
 impl Way {
@@ -29,12 +23,8 @@ impl Way {
     pub fn open(&mut self, frame: &mut [u8]) -> Result<usize, Fault>
         ensures { Opens self.old frame.old result self.new frame.new }
     {
-        let Some(size) = inside(frame) else {
-            return Err(Fault::Length);
-        };
-        let Some(number) = self.next else {
-            return Err(Fault::Tag);
-        };
+        let size = inside(frame).ok_or(Fault::Length)?;
+        let number = self.next.ok_or(Fault::Tag)?;
         if !self.fits(number, frame) {
             return Err(Fault::Tag);
         }

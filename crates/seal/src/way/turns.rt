@@ -1,9 +1,9 @@
 // The cipher and the tag of one message.
-ghost use Rattle.std.specs.Prelude.{◌≡◌, ℕ, ◌+◌, ◌≤◌, T, ◌∷◌, length};
+ghost use Rattle.std.specs.Prelude.{◌≡◌, ◌+◌, ◌≤◌, ◌↔◌, IsTrue, ◌∷◌, length};
 ghost use Rattle.hmac.specs.Hmac.{HMAC};
 ghost use Rattle.sha256.specs.Message.{Bytes64};
-ghost use Rattle.seal.specs.Frames.{body_of, Secret, tag, tag_of, tag_text, turned};
-ghost use Rattle.seal.specs.Ways.{next_of, Stands};
+ghost use Rattle.seal.specs.Frames.{body_of, tag, tag_of, tag_text, turned};
+ghost use Rattle.seal.specs.Ways.{next_of, WhereStands};
 
 use crate::way::Way;
 use octets::equal;
@@ -27,7 +27,7 @@ impl Way {
     // Encrypts, which is decrypts too.
     pub(crate) fn turn(&self, number: u64, text: &mut [u8])
         requires { length text.old ≤ 1082 }
-        ensures { (s : Secret) (n : ℕ) → Stands self.now s n → text.new ≡ turned s number text.old }
+        ensures { WhereStands self.now (λ s _. text.new ≡ turned s number text.old) }
     {
         // The counter has blocks for far more.
         let _ = chacha20::apply(&self.key, 0, &nonce(number), text);
@@ -36,7 +36,7 @@ impl Way {
     // The tag of a length and encrypted inside; its first 16 bytes go over the connection.
     pub(crate) fn tag(&self, number: u64, body: &[u8]) -> [u8; 32]
         requires { length body.now ≤ 1100 }
-        ensures { (s : Secret) (n : ℕ) → Stands self.now s n → result ≡ HMAC s.key (tag_text s number body.now) }
+        ensures { WhereStands self.now (λ s _. result ≡ HMAC s.key (tag_text s number body.now)) }
     {
         let mut mac = self.mac;
         // Neither is ever too many.
@@ -48,11 +48,9 @@ impl Way {
     // Whether a whole message has the tag of a number.
     pub(crate) fn fits(&self, number: u64, frame: &[u8]) -> bool
         requires { (18 ≤ length frame.now) × (length frame.now ≤ 1100) }
-        ensures right { (s : Secret) (n : ℕ) → Stands self.now s n → T result → tag_of frame.now ≡ tag s number (body_of frame.now) }
-        ensures wrong { (s : Secret) (n : ℕ) → Stands self.now s n → tag_of frame.now ≡ tag s number (body_of frame.now) → T result }
+        ensures { WhereStands self.now (λ s _. IsTrue result ↔ (tag_of frame.now ≡ tag s number (body_of frame.now))) }
     {
-        let at = frame.len() - 16;
-        let tag = self.tag(number, &frame[0..at]);
-        equal(&frame[at..frame.len()], &tag[0..16])
+        let (body, tag) = frame.split_at(frame.len() - 16);
+        equal(tag, &self.tag(number, body)[..16])
     }
 }

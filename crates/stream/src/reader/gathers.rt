@@ -4,10 +4,10 @@ ghost use Rattle.seal.specs.Frames.{size_at};
 ghost use Rattle.seal.specs.Ways.{Opens};
 ghost use Rattle.stream.specs.Readers.{Gathers, held_of, Short, used_of};
 
-use crate::gathered::Gathered;
 use crate::reader::Reader;
+use crate::too_long::TooLong;
 use octets::put;
-use seal::way::Way;
+use seal::way::{LARGEST, Way};
 use wire::fault::Fault;
 
 impl Reader {
@@ -33,44 +33,44 @@ impl Reader {
         ensures held { held_of self.new ≡ held_of self.old ++ take result piece.now }
     {
         let used = until.saturating_sub(self.n).min(piece.len());
-        put(&mut self.buffer, self.n, &piece[0..used]);
+        put(&mut self.buffer, self.n, &piece[..used]);
         self.n += used;
         used
+    }
+
+    fn held(&self) -> &[u8]
+        ensures { result.now ≡ held_of self.now }
+    {
+        &self.buffer[..self.n]
     }
 
     // How long the message says that its inside is.
     fn size(&self) -> Option<usize>
         ensures { MatchOption result (length (held_of self.now) < 2) (λ n. (2 ≤ length (held_of self.now)) × (n ≡ size_at (held_of self.now))) }
     {
-        if self.n < 2 {
+        let [high, low, ..] = self.held() else {
             return None;
-        }
-        Some(u16::from_be_bytes([self.buffer[0], self.buffer[1]]) as usize)
+        };
+        Some(usize::from(u16::from_be_bytes([*high, *low])))
     }
 
-    fn held(&self) -> usize
-        ensures { result ≡ length (held_of self.now) }
-    {
-        self.n
-    }
-
-    // Takes as much of a piece as belongs to the message that is under way.
-    pub fn gather(&mut self, piece: &[u8]) -> Gathered
+    // Takes as much of a piece as belongs to the message that is under way; answers how much makes it whole, once it is.
+    pub fn gather(&mut self, piece: &[u8]) -> Result<Option<usize>, TooLong>
         ensures within { used_of result ≤ length piece.now }
         ensures gathers { Short (held_of self.old) → Gathers (held_of self.old) piece.now result (held_of self.new) }
     {
         let first = self.fill(2, piece);
         let Some(size) = self.size() else {
-            return Gathered::More;
+            return Ok(None);
         };
-        if size > 1082 {
-            return Gathered::Long(first);
+        if size > LARGEST {
+            return Err(TooLong { used: first });
         }
         let more = self.fill(size + 18, &piece[first..]);
-        if self.held() < size + 18 {
-            return Gathered::More;
+        if self.held().len() < size + 18 {
+            return Ok(None);
         }
-        Gathered::Frame(first + more)
+        Ok(Some(first + more))
     }
 
     // Opens the whole message that is held.
@@ -86,7 +86,7 @@ impl Reader {
         requires { 2 + size ≤ length (held_of self.now) }
         ensures { result.now ≡ take size (drop 2 (held_of self.now)) }
     {
-        &self.buffer[2..2 + size]
+        &self.held()[2..2 + size]
     }
 
     pub(crate) fn clear(&mut self)

@@ -1,20 +1,12 @@
-use Rattle.std.proofs.Common.{◌≡◌, ℕ, ◌-◌, length, take, sym, refl, ap, ◌∙◌, arith}
-use Rattle.std.proofs.lemmas.List.{take_rest}
-use Rattle.seal.specs.Frames.{body_of}
-use Rattle.seal.proofs.Sealing.{tag-of}
+use Rattle.std.proofs.Common.{◌≡◌, List, ℕ, take, sym, ap, ◌∙◌}
+use Rattle.hmac.specs.Hmac.{HMAC}
+use Rattle.seal.specs.Frames.{body_of, tag, tag_text}
 use Rattle.seal.proofs.way.Way.fits.Goals as goal
 
 pub returns : goal.returns
-returns c =
+unfolding tag
+returns c = λ s n h.
     let f = c.args.frame.now in
-    let z : length f - 16 - 0 ≡ length f - 16 = omega arith in
-    let eb : take (length f - 16 - 0) f ≡ body_of f = ap (λ (k : ℕ). take k f) z in
-    record {
-      right = λ s n h t.
-          sym (take_rest f (length f - 16)) ∙ c.equal.ensures.same t
-          ∙ tag-of s c.args.number f (take (length f - 16 - 0) f) (take 16 c.tag-tag.result) c.tag-tag.result eb (c.tag-tag.ensures s n h) refl;
-      wrong = λ s n h e.
-          c.equal.ensures.differs
-          (take_rest f (length f - 16) ∙ e
-          ∙ sym (tag-of s c.args.number f (take (length f - 16 - 0) f) (take 16 c.tag-tag.result) c.tag-tag.result eb (c.tag-tag.ensures s n h) refl));
-    }
+    let e : take 16 c.tag.result ≡ tag s c.args.number (body_of f) =
+    ap (take 16) (c.tag.ensures s n h ∙ ap (λ (v : List ℕ). HMAC s.key (tag_text s c.args.number v)) c.split_at.ensures.front) in
+    (λ t. sym c.split_at.ensures.back ∙ c.equal.ensures.0 t ∙ e, λ d. c.equal.ensures.1 (c.split_at.ensures.back ∙ d ∙ sym e))

@@ -1,16 +1,16 @@
 use Rattle.std.proofs.Common.{refl, rules}
-use Rattle.seal.proofs.Macs.{made}
+use Rattle.hmac.specs.Calls.{Prepared}
+use Rattle.seal.specs.Frames.{way_key}
 use Rattle.seal.proofs.way.Way.new.Goals as goal
 
 pub returns : goal.returns
+unfolding way_key
 returns c =
-    made _ c.args.direction c.args.key.now c.args.client.now c.args.server.now c.prepared-shared.result c.begun.result c.key_mark.result c.tag_mark.result
-    c.key_mark.ensures
-    c.tag_mark.ensures
-    (search rules)
-    (search rules)
-    c.prepared-shared.ensures
-    c.begun.ensures
-    c.finish-key.ensures
-    c.begun-mac.ensures
-    refl
+    let s = c.args.secret.now in
+    let p : Prepared c.unwrap-key.result s.key = search rules in
+    record {
+      key = c.finish.ensures s.key _ (c.begun.ensures s.key p);
+      mac = c.begun-2.ensures s.key p;
+      next = refl;
+      nonces = search rules;
+    }

@@ -1,4 +1,4 @@
-use Rattle.seal.proofs.Macs.{turned-is}
+use Rattle.seal.proofs.Turning.{turned-is}
 use Rattle.seal.proofs.way.Way.turn.Goals as goal
 
 pub returns : goal.returns

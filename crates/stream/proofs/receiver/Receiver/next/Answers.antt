@@ -1,49 +1,28 @@
-use Rattle.std.proofs.Common.{sym, refl, ◌∙◌, subst}
-use Rattle.stream.specs.Readers.{held_of}
+use Rattle.std.proofs.Common.{◌≡◌, Ok, Err, None, Result, rules, refl, sym, ◌∙◌, subst}
+use Rattle.std.specs.Result.{result_err}
+use Rattle.wire.specs.Codes.{is_known}
 use Rattle.stream.specs.Receivers.{Nexts}
-use Rattle.stream.proofs.Receiving.{next-again, next-fault, next-long, next-message, next_more}
+use Rattle.stream.proofs.Receiving.{next-again, nexts-is}
 use Rattle.stream.proofs.receiver.Receiver.next.Goals as goal
 
-pub returns-in-Some : goal.returns-in-Some
-returns-in-Some g c = λ s h i.
-    next-again g.M.Codec.sendable g.M.Codec.written g.M.Codec.known s h c.args.self.now c.args.piece.now c.in-Some.fault i c.in-Some.is
+no-fault : {T E : Type 0} (r : Result T E) → ((x : E) → r ≡ Err x → ⊥) → result_err r ≡ None
+no-fault (Ok x) h = refl
+no-fault (Err e) h = absurd (h e refl)
 
-pub returns-in-More : goal.returns-in-More
-returns-in-More g c = λ s h i.
-    next_more g.M.Codec.sendable g.M.Codec.written g.M.Codec.known s h c.args.self.now (record { way = c.args.self.now.way; reader = c.gather.new.self; fault = c.args.self.now.fault }) c.args.piece.now i
-    c.in_default.is
-    c.in-More.ensures.gathers
-    refl
-    c.in_default.is
-
-pub returns-in-Long : goal.returns-in-Long
-returns-in-Long g c =
-    subst (λ r. Nexts g.M.Codec.sendable g.M.Codec.written g.M.Codec.known c.args.self.now c.args.piece.now r c.fail.new.self)
-    (sym c.fail.ensures.0)
-    (λ s h i.
-    next-long g.M.Codec.sendable g.M.Codec.written g.M.Codec.known s h c.args.self.now c.fail.new.self (held_of c.gather.new.self) c.args.piece.now c.in-Long.field-0 i
-    c.in_default.is
-    c.in-Long.ensures.gathers
-    c.fail.ensures.1)
-
-pub returns-in-Ok : goal.returns-in-Ok
-returns-in-Ok g c = (
-  c.in-Frame.ensures.within,
-  λ s h i.
-      next-message g.M.Codec.sendable g.M.Codec.written g.M.Codec.known s h c.args.self.now c.take.new.self (held_of c.gather.new.self) c.args.piece.now c.in-Frame.used c.in-Ok.message i
-      c.in_default.is
-      c.in-Frame.ensures.gathers
-      c.in-Ok.ensures.takes
-      (c.in-Ok.ensures.fault ∙ c.in_default.is),
-)
+pub returns-in_err-unbroken : goal.returns-in_err-unbroken
+returns-in_err-unbroken g c =
+    let f = c.in_err-unbroken.field-0.0 in
+    let e : c.from_residual.result ≡ Err f = search rules in
+    subst (λ r. Nexts g.M.Codec.code c.args.self.now c.args.piece.now r c.args.self.now) (sym e)
+    (λ s h i. next-again s (is_known g.M.Codec.code) h c.args.self.now c.args.piece.now f i (search rules))
 
 pub returns-in-Err : goal.returns-in-Err
 returns-in-Err g c =
-    subst (λ r. Nexts g.M.Codec.sendable g.M.Codec.written g.M.Codec.known c.args.self.now c.args.piece.now r c.fail-in-Err.new.self)
-    (sym c.fail-in-Err.ensures.0)
-    (λ s h i.
-    next-fault g.M.Codec.sendable g.M.Codec.written g.M.Codec.known s h c.args.self.now c.fail-in-Err.new.self c.take.new.self.way (held_of c.gather.new.self) (held_of c.take.new.self.reader) c.args.piece.now c.in-Frame.used c.in-Err.fault i
-    c.in_default.is
-    c.in-Frame.ensures.gathers
-    c.in-Err.ensures.takes
-    c.fail-in-Err.ensures.1)
+    let rf : c.args.self.now.fault ≡ None = search rules in
+    nexts-is g.M.Codec.code c.args.self.now _ c.args.piece.now (Err c.in-Err.fault) rf refl (c.in-Err.ensures (c.args.self.now.short rf))
+
+pub returns-in_default : goal.returns-in_default
+returns-in_default g c =
+    let rf : c.args.self.now.fault ≡ None = search rules in
+    nexts-is g.M.Codec.code c.args.self.now _ c.args.piece.now c.arrived.result rf (rf ∙ sym (no-fault c.arrived.result c.in_default.not-Err))
+    (c.arrived.ensures (c.args.self.now.short rf))
