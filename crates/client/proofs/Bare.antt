@@ -43,49 +43,16 @@ module _ (k : Kept) (c : ℕ) (g t : List ℕ) where
       go false = refl
 
   pub requests-whole : requests limits (whole k c g t) ≡ requests_k k
-  requests-whole =
-      let a = goes-whole in
-      let b = eof-whole in
-      let d = close-whole in
-      let e = runs-whole in
-      ap (λ z. cond z (inputs (parts (length (goes (whole k c g t))) 1024 (goes (whole k c g t))) ++ (cond (eof_now (whole k c g t)) (Eof ∷ []) [] ++ cond (close_now (whole k c g t)) (Close ∷ []) [])) []) e
-      ∙ ap (λ z. cond k.running (inputs (parts (length z) 1024 z) ++ (cond (eof_now (whole k c g t)) (Eof ∷ []) [] ++ cond (close_now (whole k c g t)) (Close ∷ []) [])) []) a
-      ∙ ap (λ z. cond k.running (inputs (parts (length (goes_of k)) 1024 (goes_of k)) ++ (cond z (Eof ∷ []) [] ++ cond (close_now (whole k c g t)) (Close ∷ []) [])) []) b
-      ∙ ap (λ z. cond k.running (inputs (parts (length (goes_of k)) 1024 (goes_of k)) ++ (cond (eof_k k) (Eof ∷ []) [] ++ cond z (Close ∷ []) [])) []) d
+  requests-whole = rw (eof-whole, close-whole, runs-whole, goes-whole)
 
   -- a channel that runs, flushed
   abbrev pub shape : ClientChannel
-  shape =
-      record {
-        number = k.number;
-        command = c;
-        phase = cond (close_k k) Closed (phase_of k.running);
-        input = g ++ k.waiting;
-        sent = length g + length (goes_of k);
-        may = length g + k.credit;
-        eof = k.eof;
-        said = k.said || eof_k k;
-        got = t ++ k.unseen;
-        taken = length t;
-        exit = k.exit;
-      }
+  shape = record (whole k c g t) { phase = cond (close_k k) Closed (phase_of k.running); sent = length g + length (goes_of k); said = k.said || eof_k k }
 
   pub flushed-whole : k.running ≡ true → flushed (whole k c g t) ≡ shape
   flushed-whole h =
       cond-true (runs (phase_of k.running)) (flushed_running (whole k c g t)) (whole k c g t) (runs-whole ∙ h)
-      ∙ (λ i. record {
-        number = k.number;
-        command = c;
-        phase = cond (close-whole i) Closed (phase_of k.running);
-        input = g ++ k.waiting;
-        sent = length g + length (goes-whole i);
-        may = length g + k.credit;
-        eof = k.eof;
-        said = k.said || eof-whole i;
-        got = t ++ k.unseen;
-        taken = length t;
-        exit = k.exit;
-      })
+      ∙ (λ i. record (whole k c g t) { phase = cond (close-whole i) Closed (phase_of k.running); sent = length g + length (goes-whole i); said = k.said || eof-whole i })
 
   pub flushed-asked : k.running ≡ false → flushed (whole k c g t) ≡ whole k c g t
   flushed-asked h = cond-false (runs (phase_of k.running)) (flushed_running (whole k c g t)) (whole k c g t) (runs-whole ∙ h)
@@ -97,16 +64,16 @@ or-false false b h = h
 -- a channel with nothing to send is flushed already
 app_nil : (xs ys : List Request) → xs ++ ys ≡ [] → (xs ≡ []) × (ys ≡ [])
 app_nil [] ys h = (refl, h)
-app_nil (x ∷ xs) ys h = absurd (let z : ◌≡◌ {A = ℕ} 0 1 = cc in omega arith)
+app_nil (x ∷ xs) ys h = cc
 
 one-nil : (b : Bool) (q : Request) → cond b (q ∷ []) [] ≡ [] → b ≡ false
-one-nil true q h = absurd (let z : ◌≡◌ {A = ℕ} 0 1 = cc in omega arith)
+one-nil true q h = cc
 one-nil false q h = refl
 
 inputs-nil : (z : List ℕ) → inputs (parts (length z) 1024 z) ≡ [] → length z ≡ 0
 unfolding inputs parts
 inputs-nil [] h = refl
-inputs-nil (x ∷ xs) h = absurd (let z : ◌≡◌ {A = ℕ} 0 1 = cc in omega arith)
+inputs-nil (x ∷ xs) h = cc
 
 -- what it sends, when it runs
 pub sending : (k : Kept) → k.running ≡ true → requests_k k ≡ inputs (parts (length (goes_of k)) 1024 (goes_of k)) ++ (cond (eof_k k) (Eof ∷ []) [] ++ cond (close_k k) (Close ∷ []) [])
@@ -125,16 +92,4 @@ quiet-flushed k c g t h = ⊎_elim (λ r. running r) (λ r. flushed-asked k c g 
         let s : length g + length (goes_of k) ≡ length g = omega arith in
         let d : (k.said || eof_k k) ≡ k.said = or-false k.said (eof_k k) e in
         flushed-whole k c g t r
-        ∙ (λ i. record {
-          number = k.number;
-          command = c;
-          phase = cond (f i) Closed (phase_of k.running);
-          input = g ++ k.waiting;
-          sent = s i;
-          may = length g + k.credit;
-          eof = k.eof;
-          said = d i;
-          got = t ++ k.unseen;
-          taken = length t;
-          exit = k.exit;
-        })
+        ∙ (λ i. record (whole k c g t) { phase = cond (f i) Closed (phase_of k.running); sent = s i; said = d i })

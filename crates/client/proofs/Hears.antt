@@ -1,5 +1,5 @@
 -- What a reply makes of a channel, in the model and in the value.
-use Rattle.std.proofs.Common.{◌≡◌, ℕ, ◌+◌, ◌-◌, Bool, true, false, cond, ltb, List, ◌++◌, length, Some, None, Ok, Err, Option, Result, sym, refl, ap, ◌∙◌, arith}
+use Rattle.std.proofs.Common.{◌≡◌, ℕ, ◌+◌, ◌-◌, Bool, true, false, cond, ltb, List, ◌++◌, length, Some, None, Ok, Err, Option, Result, refl, arith}
 use Rattle.std.proofs.lemmas.List.{length-append, append_assoc}
 use Rattle.std.proofs.lemmas.Bool.Decides.{nat_tests}
 use Rattle.model.specs.Messages.{real, Reply, Runs, Output, InputCredit, Exit, Fault, OutOfTurn, BeyondWindow, Uncountable, is_some}
@@ -37,19 +37,14 @@ module _ (a : ℕ → ℕ → List ℕ → Bool) (p : ℕ → ℕ → Bool) (k :
   running-is (Output bs) =
       let e = length-append t k.unseen in
       let f : ltb (length t + 8192) (length (t ++ k.unseen) + length bs) ≡ ltb 8192 (length k.unseen + length bs) = grind (arith, nat_tests) in
-      let q : got_more bs (whole k c g t) ≡ whole (got_of bs k) c g t = λ i. record { number = k.number; command = c; phase = (whole k c g t).phase; input = g ++ k.waiting; sent = length g; may = length g + k.credit; eof = k.eof; said = k.said; got = append_assoc t k.unseen bs i; taken = length t; exit = k.exit } in
-      ap (λ z. cond (is_some k.exit) (Err OutOfTurn) (cond z (Err BeyondWindow) (Ok (got_more bs (whole k c g t))))) f
-      ∙ ap (λ z. cond (is_some k.exit) (Err OutOfTurn) (cond (ltb 8192 (length k.unseen + length bs)) (Err BeyondWindow) (Ok z))) q
-      ∙ ap (cond (is_some k.exit) (Err OutOfTurn)) (sym (lift-cond (ltb 8192 (length k.unseen + length bs)) (Err BeyondWindow) (Ok (Some (got_of bs k)))))
-      ∙ sym (lift-cond (is_some k.exit) (Err OutOfTurn) (cond (ltb 8192 (length k.unseen + length bs)) (Err BeyondWindow) (Ok (Some (got_of bs k)))))
+      let q : got_more bs (whole k c g t) ≡ whole (got_of bs k) c g t = λ i. record (whole k c g t) { got = append_assoc t k.unseen bs i } in
+      simp (f, q, lift-cond)
   running-is (InputCredit n) =
       let f : length g + k.credit - length g + n ≡ k.credit + n = omega arith in
       let h : length g + k.credit + n ≡ length g + (k.credit + n) = omega arith in
-      let q : may_more n (whole k c g t) ≡ whole (may_of n k) c g t = λ i. record { number = k.number; command = c; phase = (whole k c g t).phase; input = g ++ k.waiting; sent = length g; may = h i; eof = k.eof; said = k.said; got = t ++ k.unseen; taken = length t; exit = k.exit } in
-      ap (λ z. cond (ltb 0xffff_ffff_ffff_ffff z) (Err Uncountable) (Ok (may_more n (whole k c g t)))) f
-      ∙ ap (λ z. cond (ltb 0xffff_ffff_ffff_ffff (k.credit + n)) (Err Uncountable) (Ok z)) q
-      ∙ sym (lift-cond (ltb 0xffff_ffff_ffff_ffff (k.credit + n)) (Err Uncountable) (Ok (Some (may_of n k))))
-  running-is (Exit s) = sym (lift-cond (is_some k.exit) (Err OutOfTurn) (Ok (Some (exit_of s k))))
+      let q : may_more n (whole k c g t) ≡ whole (may_of n k) c g t = λ i. record (whole k c g t) { may = h i } in
+      simp (f, q, lift-cond)
+  running-is (Exit s) = simp lift-cond
 
   pub hear-is : (m : Reply) → hear (real a p) m (Some (whole k c g t)) ≡ lifted k c g t (hear_of m k)
   hear-is m = go k.running

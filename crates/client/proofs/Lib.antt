@@ -4,13 +4,12 @@ pub mod Next
 pub mod Standing
 pub mod Moves
 pub mod Sends
-pub mod Kepts
 pub mod Refusals
 pub mod Begin
 pub mod Calls
 pub mod Hears
 pub mod Receives
-pub mod Places
 pub mod Refuse
 pub mod HandOut
 pub mod Whole
+pub mod Places

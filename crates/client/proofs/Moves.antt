@@ -1,9 +1,10 @@
 -- A value stands for a client of the model before and after an event: one channel changed, removed or added, the login told, the connection down.
-use Rattle.std.proofs.Common.{◌≡◌, ℕ, zero, suc, ◌+◌, ◌-◌, ◌<◌, ◌≤◌, Bool, true, false, ◌&&◌, ◌||◌, eqb, ltb, leb, List, [], ◌∷◌, ◌++◌, map, length, get_or, take, drop, set, sym, refl, ap, ◌∙◌, subst, ⊎_elim, arith}
+use Rattle.std.proofs.Common.{◌≡◌, ℕ, zero, suc, ◌+◌, ◌-◌, ◌<◌, ◌≤◌, Bool, true, false, cond, ◌&&◌, ◌||◌, eqb, ltb, leb, List, [], ◌∷◌, ◌++◌, map, length, get_or, take, drop, set, Some, None, Option, sym, refl, ap, ◌∙◌, subst, ⊎_elim, arith}
 use Rattle.std.specs.List.{remove}
-use Rattle.std.proofs.lemmas.List.{length-set, length-append, length-take, length-drop, length_push, get_or-set_same, get_or-set_other, get_or_append_left, get_or-append_right, get_or-take, get_or-drop, get_or_push, append-nil}
+use Rattle.std.specs.Option as option
+use Rattle.std.proofs.lemmas.List.{length-set, length-append, length-take, length-drop, length_push, get_or-set_other, get_or_append_left, get_or-append_right, get_or-take, get_or-drop, get_or_push, append-nil}
 use Rattle.std.proofs.lemmas.Bool.Decides.{nat_tests}
-use Rattle.std.proofs.lemmas.Bool.{cases_Bool, cond-true, cond-false, eq-eqb, ne_eqb, cases_eq, cases_lt, ltb-false, or_parts, le-leb, or_right}
+use Rattle.std.proofs.lemmas.Bool.{cases_Bool, cond-true, cond-false, eq-eqb, ne_eqb, cases_eq, cases_lt, or_parts, le-leb, or_right}
 use Rattle.model.specs.Keyed.{change, numbers, is_in, above, gather, each}
 use Rattle.model.specs.Messages.{Rules, real, ToServer, Did, did}
 use Rattle.model.specs.Client.{ClientChannel, Client, client, number_of, new_channel, is_held, requests, requests_of, flushed, flush, with_channels, labelled}
@@ -13,29 +14,33 @@ use Rattle.client.specs.Stand.{whole, limits, bare, Stand, QuietBut, StandsFor, 
 use Rattle.client.proofs.Bare.{or-false}
 use Rattle.client.proofs.Standing.{AllQuiet, gather-stand, each-quiet, Focus, focus, push-stand, is_in-push, above-push}
 
-abbrev pub view : List Kept → List Bool → ℕ → Bool → Bool → List ToServer → ℕ → View
-view ks ms n a u p t = record { kepts = ks; marks = ms; next = n; accepted = a; up = u; pending = p; turn = t }
+abbrev pub view : List Kept → (ℕ → Bool) → ℕ → Bool → Bool → List ToServer → Option ℕ → View
+view ks us n a u p t = record { kepts = ks; is_used = us; next = n; accepted = a; up = u; pending = p; turn = t }
 
 pub never : {A : Type 0} (b : Bool) → b ≡ true → b ≡ false → A
-never b h f = absurd (let z : ◌≡◌ {A = ℕ} 0 1 = cc in omega arith)
+never b h f = cc
 
 -- a value that is not busy owes nothing
 pub record Idle (v : View) : Type 0 where
   pub pending : v.pending ≡ []
-  pub turn : length v.kepts ≤ v.turn
+  pub turn : v.turn ≡ None
 
 pub idle : (v : View) → busy v ≡ false → Idle v
-idle v h = let p = or_parts (is_some v.pending) (ltb v.turn (length v.kepts)) h in record { pending = empty v.pending p.0; turn = ltb-false v.turn (length v.kepts) p.1 }
+idle v h = let p = or_parts (is_some v.pending) (option.is_some v.turn) h in record { pending = empty v.pending p.0; turn = no_turn v.turn p.1 }
   where
     empty : (ms : List ToServer) → is_some ms ≡ false → ms ≡ []
     empty [] e = refl
     empty (m ∷ ms) e = never true refl e
 
-all_quiet : (v : View) (w : Client) → StandsFor v w → length v.kepts ≤ v.turn → v.up ≡ true → AllQuiet v.kepts
-unfolding QuietBut
-all_quiet v w s l u i d h = s.quiet u i d h (λ e. omega arith)
+    no_turn : (o : Option ℕ) → option.is_some o ≡ false → o ≡ None
+    no_turn None e = refl
+    no_turn (Some i) e = never true refl e
 
-pub settled : (v : View) (w : Client) (s : StandsFor v w) → length v.kepts ≤ v.turn → w ≡ client s.all v.accepted v.up
+all_quiet : (v : View) (w : Client) → StandsFor v w → v.turn ≡ None → v.up ≡ true → AllQuiet v.kepts
+unfolding QuietBut
+all_quiet v w s l u i d h = s.quiet u i d h (λ e. cc)
+
+pub settled : (v : View) (w : Client) (s : StandsFor v w) → v.turn ≡ None → w ≡ client s.all v.accepted v.up
 settled v w s l = λ i. record { channels = flat i; accepted = s.accepted i; up = s.up i }
   where
     flat : w.channels ≡ s.all
@@ -79,9 +84,9 @@ unfolding owed_by
 owed-up v hs u s = cond-true v.up _ _ u ∙ ap (λ z. v.pending ++ z) (sym (gather-stand s))
 
 -- one element changed, removed or added
-pub quiet-set : (ks : List Kept) (i : ℕ) (k : Kept) → ((j : ℕ) (d : Kept) → j < length ks → (j ≡ i → ⊥) → requests limits (bare (get_or ks j d)) ≡ []) → QuietBut i (set ks i k)
+pub quiet-set : (ks : List Kept) (i : ℕ) (k : Kept) → ((j : ℕ) (d : Kept) → j < length ks → (j ≡ i → ⊥) → requests limits (bare (get_or ks j d)) ≡ []) → QuietBut (Some i) (set ks i k)
 unfolding QuietBut
-quiet-set ks i k q j d l n = let e = length-set ks i k in ap (λ z. requests limits (bare z)) (get_or-set_other ks i j k d n) ∙ q j d (omega arith) n
+quiet-set ks i k q j d l n = let e = length-set ks i k in ap (λ z. requests limits (bare z)) (get_or-set_other ks i j k d (λ f. n (ap Some (sym f)))) ∙ q j d (omega arith) (λ f. n (ap Some (sym f)))
 
 pub removed-at : (ks : List Kept) (i j : ℕ) (d : Kept) → i < length ks → j < length (remove ks i) → (m : ℕ) × (m < length ks) × (m ≡ i → ⊥) × (get_or (remove ks i) j d ≡ get_or ks m d)
 removed-at ks i j d l h =
@@ -93,12 +98,20 @@ removed-at ks i j d l h =
     (λ f. (suc j, omega arith, (λ e. omega arith), get_or-append_right (take i ks) (drop (suc i) ks) i j d (omega arith) f ∙ get_or-drop (suc i) ks (j - i) d ∙ ap (λ z. get_or ks z d) (let z : suc i + (j - i) ≡ suc j = omega arith in z)))
     (cases_lt j i)
 
-pub quiet-removed : (ks : List Kept) (i t : ℕ) → i < length ks → ((j : ℕ) (d : Kept) → j < length ks → (j ≡ i → ⊥) → requests limits (bare (get_or ks j d)) ≡ []) → QuietBut t (remove ks i)
+pub quiet-removed : (ks : List Kept) (i : ℕ) (t : Option ℕ) → i < length ks → ((j : ℕ) (d : Kept) → j < length ks → (j ≡ i → ⊥) → requests limits (bare (get_or ks j d)) ≡ []) → QuietBut t (remove ks i)
 unfolding QuietBut
 quiet-removed ks i t l q j d h n = let m = removed-at ks i j d l h in ap (λ z. requests limits (bare z)) m.3 ∙ q m.0 d m.1 m.2
 
 pub length_removed : (ks : List Kept) (i : ℕ) → i < length ks → length (remove ks i) + 1 ≡ length ks
 length_removed ks i l = let lt = length-take i ks in let ld = length-drop (suc i) ks in let la = length-append (take i ks) (drop (suc i) ks) in omega arith
+
+-- the value after an event, beside what the model's client then is and sends
+abbrev pub After : View → Did Client ToServer → Type 0
+After v x = StandsFor v x.side × (owed_by v ≡ x.sends)
+
+pub owed-down : (v : View) → v.up ≡ false → owed_by v ≡ []
+unfolding owed_by
+owed-down v u = cond-false v.up _ _ u
 
 -- the event changes one channel, and the client is up
 module _ (v : View) (w : Client) (s : StandsFor v w) (b : busy v ≡ false) (u : v.up ≡ true) (i : ℕ) (d : Kept) (l : i < length v.kepts) where
@@ -108,67 +121,51 @@ module _ (v : View) (w : Client) (s : StandsFor v w) (b : busy v ≡ false) (u :
   abbrev o : Focus v.kepts s.all i (get_or v.kepts i d)
   o = focus s.stand i d l
 
-  pub changed : (r : Rules) (k' : Kept) (p : List ToServer) (f : ClientChannel → ClientChannel) → k'.number ≡ k.number → ((g' : List ℕ) × (t' : List ℕ) × (f (whole k o.command o.went o.taken) ≡ whole k' o.command g' t')) →
-      StandsFor (view (set v.kepts i k') v.marks v.next v.accepted v.up p i) (flush r (did (with_channels (change number_of k.number f w.channels) w) p)).side
-  changed r k' p f en h =
-      let q = h in
+  pub changed : (a : ℕ → ℕ → List ℕ → Bool) (m : ℕ → ℕ → Bool) (k' : Kept) (p : List ToServer) (f : ClientChannel → ClientChannel) → k'.number ≡ k.number → ((g' : List ℕ) × (t' : List ℕ) × (f (whole k o.command o.went o.taken) ≡ whole k' o.command g' t')) →
+      After (view (set v.kepts i k') v.is_used v.next v.accepted v.up p (Some i)) (flush (real a m) (did (with_channels (change number_of k.number f w.channels) w) p))
+  changed a m k' p f en q =
       let e = ap number_of q.2 ∙ en in
-      let z = settled v w s (idle v b).turn in
       let cs = change number_of k.number f s.all in
-      subst (λ x. StandsFor (view (set v.kepts i k') v.marks v.next v.accepted v.up p i) (flush r (did (with_channels (change number_of k.number f x.channels) x) p)).side) (sym z)
-      (subst (λ (x : Did Client ToServer). StandsFor (view (set v.kepts i k') v.marks v.next v.accepted v.up p i) x.side) (sym (flush-up r cs v.accepted v.up p u))
-      (record {
-        all = cs;
-        stand = o.keeps f k' q.0 q.1 en q.2;
-        channels = sym (cond-true v.up (each flushed cs) cs u);
-        accepted = refl;
-        up = refl;
-        used = λ n. s.used n ∙ ap (is_in n) (sym (o.numbered f e));
-        least = λ n. ap (above n) (o.numbered f e) ∙ s.least n;
-        full = s.full;
-        quiet = λ y. quiet-set v.kepts i k' (λ j dd h m. all_quiet v w s (idle v b).turn u j dd h);
-        down = λ y. never v.up u y;
-      }))
-
-  pub changed-sends : (a : ℕ → ℕ → List ℕ → Bool) (m : ℕ → ℕ → Bool) (k' : Kept) (p : List ToServer) (f : ClientChannel → ClientChannel) → k'.number ≡ k.number → ((g' : List ℕ) × (t' : List ℕ) × (f (whole k o.command o.went o.taken) ≡ whole k' o.command g' t')) →
-      owed_by (view (set v.kepts i k') v.marks v.next v.accepted v.up p i) ≡ (flush (real a m) (did (with_channels (change number_of k.number f w.channels) w) p)).sends
-  changed-sends a m k' p f en h =
-      let q = h in
-      let z = settled v w s (idle v b).turn in
-      let cs = change number_of k.number f s.all in
-      subst (λ x. owed_by (view (set v.kepts i k') v.marks v.next v.accepted v.up p i) ≡ (flush (real a m) (did (with_channels (change number_of k.number f x.channels) x) p)).sends) (sym z)
-      (owed-up (view (set v.kepts i k') v.marks v.next v.accepted v.up p i) cs u (o.keeps f k' q.0 q.1 en q.2) ∙ ap (λ (x : Did Client ToServer). x.sends) (sym (flush-up (real a m) cs v.accepted v.up p u)))
+      let v' = view (set v.kepts i k') v.is_used v.next v.accepted v.up p (Some i) in
+      let st = o.keeps f k' q.0 q.1 en q.2 in
+      subst (λ x. After v' (flush (real a m) (did (with_channels (change number_of k.number f x.channels) x) p))) (sym (settled v w s (idle v b).turn))
+      (subst (After v') (sym (flush-up (real a m) cs v.accepted v.up p u)) (
+        record {
+          all = cs;
+          stand = st;
+          channels = sym (cond-true v.up (each flushed cs) cs u);
+          accepted = refl;
+          up = refl;
+          used = λ n. s.used n ∙ ap (is_in n) (sym (o.numbered f e));
+          least = λ n. ap (above n) (o.numbered f e) ∙ s.least n;
+          quiet = λ y. quiet-set v.kepts i k' (λ j dd h m. all_quiet v w s (idle v b).turn u j dd h);
+          down = λ y. never v.up u y;
+        },
+        owed-up v' cs u st,
+      ))
 
   -- or it takes the channel out
   pub dropped : (a : ℕ → ℕ → List ℕ → Bool) (m : ℕ → ℕ → Bool) (f : ClientChannel → ClientChannel) → (((f (whole k o.command o.went o.taken)).number ≡ k.number) × (is_held (f (whole k o.command o.went o.taken)) ≡ false)) →
-      StandsFor (view (remove v.kepts i) v.marks v.next v.accepted v.up v.pending v.turn) (flush (real a m) (did (with_channels (change number_of k.number f w.channels) w) [])).side
-  dropped a m f h =
-      let q = h in
-      let z = settled v w s (idle v b).turn in
+      After (view (remove v.kepts i) v.is_used v.next v.accepted v.up v.pending v.turn) (flush (real a m) (did (with_channels (change number_of k.number f w.channels) w) []))
+  dropped a m f q =
       let cs = change number_of k.number f s.all in
-      subst (λ x. StandsFor (view (remove v.kepts i) v.marks v.next v.accepted v.up v.pending v.turn) (flush (real a m) (did (with_channels (change number_of k.number f x.channels) x) [])).side) (sym z)
-      (subst (λ (x : Did Client ToServer). StandsFor (view (remove v.kepts i) v.marks v.next v.accepted v.up v.pending v.turn) x.side) (sym (flush-up (real a m) cs v.accepted v.up [] u))
-      (record {
-        all = cs;
-        stand = o.drops f q.0 q.1;
-        channels = sym (cond-true v.up (each flushed cs) cs u);
-        accepted = refl;
-        up = refl;
-        used = λ n. s.used n ∙ ap (is_in n) (sym (o.numbered f q.0));
-        least = λ n. ap (above n) (o.numbered f q.0) ∙ s.least n;
-        full = s.full;
-        quiet = λ y. quiet-removed v.kepts i v.turn l (λ j dd h m. all_quiet v w s (idle v b).turn u j dd h);
-        down = λ y. never v.up u y;
-      }))
-
-  pub dropped-sends : (a : ℕ → ℕ → List ℕ → Bool) (m : ℕ → ℕ → Bool) (f : ClientChannel → ClientChannel) → (((f (whole k o.command o.went o.taken)).number ≡ k.number) × (is_held (f (whole k o.command o.went o.taken)) ≡ false)) →
-      owed_by (view (remove v.kepts i) v.marks v.next v.accepted v.up v.pending v.turn) ≡ (flush (real a m) (did (with_channels (change number_of k.number f w.channels) w) [])).sends
-  dropped-sends a m f h =
-      let q = h in
-      let z = settled v w s (idle v b).turn in
-      let cs = change number_of k.number f s.all in
-      subst (λ x. owed_by (view (remove v.kepts i) v.marks v.next v.accepted v.up v.pending v.turn) ≡ (flush (real a m) (did (with_channels (change number_of k.number f x.channels) x) [])).sends) (sym z)
-      (owed-up (view (remove v.kepts i) v.marks v.next v.accepted v.up v.pending v.turn) cs u (o.drops f q.0 q.1) ∙ ap (λ x. x ++ gather (requests_of limits) cs) (idle v b).pending ∙ ap (λ (x : Did Client ToServer). x.sends) (sym (flush-up (real a m) cs v.accepted v.up [] u)))
+      let v' = view (remove v.kepts i) v.is_used v.next v.accepted v.up v.pending v.turn in
+      let st = o.drops f q.0 q.1 in
+      subst (λ x. After v' (flush (real a m) (did (with_channels (change number_of k.number f x.channels) x) []))) (sym (settled v w s (idle v b).turn))
+      (subst (After v') (sym (flush-up (real a m) cs v.accepted v.up [] u)) (
+        record {
+          all = cs;
+          stand = st;
+          channels = sym (cond-true v.up (each flushed cs) cs u);
+          accepted = refl;
+          up = refl;
+          used = λ n. s.used n ∙ ap (is_in n) (sym (o.numbered f q.0));
+          least = λ n. ap (above n) (o.numbered f q.0) ∙ s.least n;
+          quiet = λ y. quiet-removed v.kepts i v.turn l (λ j dd h m. all_quiet v w s (idle v b).turn u j dd h);
+          down = λ y. never v.up u y;
+        },
+        owed-up v' cs u st ∙ ap (λ x. x ++ gather (requests_of limits) cs) (idle v b).pending,
+      ))
 
 -- the client is down, and one channel is changed
 module _ (v : View) (w : Client) (s : StandsFor v w) (b : busy v ≡ false) (u : v.up ≡ false) (i : ℕ) (d : Kept) (l : i < length v.kepts) where
@@ -178,19 +175,14 @@ module _ (v : View) (w : Client) (s : StandsFor v w) (b : busy v ≡ false) (u :
   abbrev od : Focus v.kepts s.all i (get_or v.kepts i d)
   od = focus s.stand i d l
 
-  pub changed-down : (r : Rules) (k' : Kept) (p : List ToServer) (f : ClientChannel → ClientChannel) → k'.number ≡ kd.number → ((g' : List ℕ) × (t' : List ℕ) × (f (whole kd od.command od.went od.taken) ≡ whole k' od.command g' t')) →
-      StandsFor (view (set v.kepts i k') v.marks v.next v.accepted v.up v.pending v.turn) (flush r (did (with_channels (change number_of kd.number f w.channels) w) p)).side
-      × ((flush r (did (with_channels (change number_of kd.number f w.channels) w) p)).sends ≡ p)
-  changed-down r k' p f en h =
-      let q = h in
+  pub changed-down : (a : ℕ → ℕ → List ℕ → Bool) (m : ℕ → ℕ → Bool) (k' : Kept) (f : ClientChannel → ClientChannel) → k'.number ≡ kd.number → ((g' : List ℕ) × (t' : List ℕ) × (f (whole kd od.command od.went od.taken) ≡ whole k' od.command g' t')) →
+      After (view (set v.kepts i k') v.is_used v.next v.accepted v.up v.pending v.turn) (flush (real a m) (did (with_channels (change number_of kd.number f w.channels) w) []))
+  changed-down a m k' f en q =
       let e = ap number_of q.2 ∙ en in
-      let z = settled v w s (idle v b).turn in
-      let ls = length-set v.kepts i k' in
-      let it = (idle v b).turn in
       let cs = change number_of kd.number f s.all in
-      let v' = view (set v.kepts i k') v.marks v.next v.accepted v.up v.pending v.turn in
-      subst (λ x. StandsFor v' (flush r (did (with_channels (change number_of kd.number f x.channels) x) p)).side × ((flush r (did (with_channels (change number_of kd.number f x.channels) x) p)).sends ≡ p)) (sym z)
-      (subst (λ (x : Did Client ToServer). StandsFor v' x.side × (x.sends ≡ p)) (sym (flush-down r cs v.accepted v.up p u)) (
+      let v' = view (set v.kepts i k') v.is_used v.next v.accepted v.up v.pending v.turn in
+      subst (λ x. After v' (flush (real a m) (did (with_channels (change number_of kd.number f x.channels) x) []))) (sym (settled v w s (idle v b).turn))
+      (subst (After v') (sym (flush-down (real a m) cs v.accepted v.up [] u)) (
         record {
           all = cs;
           stand = od.keeps f k' q.0 q.1 en q.2;
@@ -199,24 +191,22 @@ module _ (v : View) (w : Client) (s : StandsFor v w) (b : busy v ≡ false) (u :
           up = refl;
           used = λ n. s.used n ∙ ap (is_in n) (sym (od.numbered f e));
           least = λ n. ap (above n) (od.numbered f e) ∙ s.least n;
-          full = s.full;
           quiet = λ y. never v.up y u;
-          down = λ y. ((idle v b).pending, omega arith);
+          down = λ y. ((idle v b).pending, (idle v b).turn);
         },
-        refl,
+        owed-down v' u,
       ))
 
 -- the event changes no channel
 module _ (v : View) (w : Client) (s : StandsFor v w) (b : busy v ≡ false) where
   -- the login is sent, or its answer comes
   pub told : (a : ℕ → ℕ → List ℕ → Bool) (m : ℕ → ℕ → Bool) (p : List ToServer) (f : Bool → Bool) → v.up ≡ true →
-      StandsFor (view v.kepts v.marks v.next (f v.accepted) v.up p v.turn) (flush (real a m) (did (client w.channels (f w.accepted) w.up) p)).side
-      × (owed_by (view v.kepts v.marks v.next (f v.accepted) v.up p v.turn) ≡ (flush (real a m) (did (client w.channels (f w.accepted) w.up) p)).sends)
+      After (view v.kepts v.is_used v.next (f v.accepted) v.up p v.turn) (flush (real a m) (did (client w.channels (f w.accepted) w.up) p))
   told a m p f u =
       let z = settled v w s (idle v b).turn in
-      let v' = view v.kepts v.marks v.next (f v.accepted) v.up p v.turn in
-      subst (λ y. StandsFor v' (flush (real a m) (did (client y.channels (f y.accepted) y.up) p)).side × (owed_by v' ≡ (flush (real a m) (did (client y.channels (f y.accepted) y.up) p)).sends)) (sym z)
-      (subst (λ (y : Did Client ToServer). StandsFor v' y.side × (owed_by v' ≡ y.sends)) (sym (flush-up (real a m) s.all (f v.accepted) v.up p u)) (
+      let v' = view v.kepts v.is_used v.next (f v.accepted) v.up p v.turn in
+      subst (λ y. After v' (flush (real a m) (did (client y.channels (f y.accepted) y.up) p))) (sym z)
+      (subst (After v') (sym (flush-up (real a m) s.all (f v.accepted) v.up p u)) (
         record {
           all = s.all;
           stand = s.stand;
@@ -225,7 +215,6 @@ module _ (v : View) (w : Client) (s : StandsFor v w) (b : busy v ≡ false) wher
           up = refl;
           used = s.used;
           least = s.least;
-          full = s.full;
           quiet = s.quiet;
           down = λ y. never v.up u y;
         },
@@ -243,10 +232,10 @@ module _ (v : View) (w : Client) (s : StandsFor v w) (b : busy v ≡ false) wher
       (flush-up (real a m) s.all v.accepted v.up [] u ∙ (λ i. did (client (e i) v.accepted v.up) (g i)))
 
   -- the connection is down
-  pub downed : StandsFor (view v.kepts v.marks v.next v.accepted false v.pending v.turn) (client w.channels w.accepted false)
+  pub downed : StandsFor (view v.kepts v.is_used v.next v.accepted false v.pending v.turn) (client w.channels w.accepted false)
   downed =
       let z = settled v w s (idle v b).turn in
-      subst (λ x. StandsFor (view v.kepts v.marks v.next v.accepted false v.pending v.turn) (client x.channels x.accepted false)) (sym z)
+      subst (λ x. StandsFor (view v.kepts v.is_used v.next v.accepted false v.pending v.turn) (client x.channels x.accepted false)) (sym z)
       (record {
         all = s.all;
         stand = s.stand;
@@ -255,23 +244,21 @@ module _ (v : View) (w : Client) (s : StandsFor v w) (b : busy v ≡ false) wher
         up = refl;
         used = s.used;
         least = s.least;
-        full = s.full;
         quiet = λ y. never false y refl;
         down = λ y. ((idle v b).pending, (idle v b).turn);
       })
 
   -- a channel starts
-  pub started : (a : ℕ → ℕ → List ℕ → Bool) (m : ℕ → ℕ → Bool) (t c : ℕ) (p : List ToServer) → v.up ≡ true → v.next ≤ t → t < 65536 →
-      StandsFor (view (v.kepts ++ fresh t ∷ []) (set v.marks t true) (t + 1) v.accepted v.up p v.turn) (flush (real a m) (did (with_channels (w.channels ++ new_channel t c ∷ []) w) p)).side
-      × (owed_by (view (v.kepts ++ fresh t ∷ []) (set v.marks t true) (t + 1) v.accepted v.up p v.turn) ≡ (flush (real a m) (did (with_channels (w.channels ++ new_channel t c ∷ []) w) p)).sends)
+  pub started : (a : ℕ → ℕ → List ℕ → Bool) (m : ℕ → ℕ → Bool) (t c : ℕ) (p : List ToServer) (us : ℕ → Bool) → ((n : ℕ) → us n ≡ cond (eqb n t) true (v.is_used n)) → v.up ≡ true → v.next ≤ t →
+      After (view (v.kepts ++ fresh t ∷ []) us (t + 1) v.accepted v.up p v.turn) (flush (real a m) (did (with_channels (w.channels ++ new_channel t c ∷ []) w) p))
   unfolding QuietBut
-  started a m t c p u h l =
+  started a m t c p us f u h =
       let z = settled v w s (idle v b).turn in
-      let v' = view (v.kepts ++ fresh t ∷ []) (set v.marks t true) (t + 1) v.accepted v.up p v.turn in
+      let v' = view (v.kepts ++ fresh t ∷ []) us (t + 1) v.accepted v.up p v.turn in
       let cs = s.all ++ new_channel t c ∷ [] in
       let st = push-stand s.stand t c (s.least t ∙ le-leb v.next t h) in
-      subst (λ y. StandsFor v' (flush (real a m) (did (with_channels (y.channels ++ new_channel t c ∷ []) y) p)).side × (owed_by v' ≡ (flush (real a m) (did (with_channels (y.channels ++ new_channel t c ∷ []) y) p)).sends)) (sym z)
-      (subst (λ (y : Did Client ToServer). StandsFor v' y.side × (owed_by v' ≡ y.sends)) (sym (flush-up (real a m) cs v.accepted v.up p u)) (
+      subst (λ y. After v' (flush (real a m) (did (with_channels (y.channels ++ new_channel t c ∷ []) y) p))) (sym z)
+      (subst (After v') (sym (flush-up (real a m) cs v.accepted v.up p u)) (
         record {
           all = cs;
           stand = st;
@@ -280,19 +267,18 @@ module _ (v : View) (w : Client) (s : StandsFor v w) (b : busy v ≡ false) wher
           up = refl;
           used = λ n. marked n ∙ sym (is_in-push n s.all (new_channel t c));
           least = λ n. above-push n s.all (new_channel t c) ∙ ap (λ y. y && ltb t n) (s.least n) ∙ least_more n;
-          full = length-set v.marks t true ∙ s.full;
           quiet = λ y. quiet-push;
           down = λ y. never v.up u y;
         },
         owed-up v' cs u st,
       ))
     where
-      marked : (n : ℕ) → get_or (set v.marks t true) n false ≡ (is_in n (numbers number_of s.all) || eqb t n)
+      marked : (n : ℕ) → us n ≡ (is_in n (numbers number_of s.all) || eqb t n)
       marked n =
-          let f = s.full in
-          ⊎_elim
-          (λ e. ap (λ j. get_or (set v.marks t true) j false) e ∙ get_or-set_same v.marks t true false (omega arith) ∙ sym (or_right (is_in n (numbers number_of s.all)) (eqb t n) (eq-eqb t n (sym e))))
-          (λ e. get_or-set_other v.marks t n true false e ∙ s.used n ∙ sym (or-false (is_in n (numbers number_of s.all)) (eqb t n) (ne_eqb t n (λ q. e (sym q)))))
+          f n
+          ∙ ⊎_elim
+          (λ e. cond-true (eqb n t) true (v.is_used n) (eq-eqb n t e) ∙ sym (or_right (is_in n (numbers number_of s.all)) (eqb t n) (eq-eqb t n (sym e))))
+          (λ e. cond-false (eqb n t) true (v.is_used n) (ne_eqb n t e) ∙ s.used n ∙ sym (or-false (is_in n (numbers number_of s.all)) (eqb t n) (ne_eqb t n (λ q. e (sym q)))))
           (cases_eq n t)
 
       least_more : (n : ℕ) → (leb v.next n && ltb t n) ≡ leb (t + 1) n

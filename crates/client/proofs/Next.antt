@@ -2,14 +2,14 @@
 use Rattle.std.proofs.Common.{◌≡◌, ℕ, ◌+◌, ◌-◌, min, Bool, true, false, cond, not, ◌&&◌, ◌||◌, eqb, List, [], ◌∷◌, ◌++◌, length, take, drop, Some, None, Option, sym, refl, ap, ◌∙◌, subst, ⊎_elim, arith}
 use Rattle.std.proofs.lemmas.List.{length-take, length-drop, length-append, append_assoc, take-append-drop}
 use Rattle.std.proofs.lemmas.Bool.Decides.{nat_tests}
-use Rattle.std.proofs.lemmas.Bool.{cases_Bool, cond-true, cond-false, eqb-true, eqb-false}
+use Rattle.std.proofs.lemmas.Bool.{cases_Bool, cond-true, cond-false, eqb-true, eqb-false, or_right}
 use Rattle.model.specs.Messages.{Request, Run, Input, OutputCredit, Eof, Close, parts}
 use Rattle.model.specs.Client.{Closed, holds, is_held, inputs, flushed}
 use Rattle.client_channel.specs.Kept.{Kept}
 use Rattle.client_channel.specs.Steps.{Step, step_to, goes_of, part_of, sent_of, said_of, end_of, next_of}
 use Rattle.client.specs.Stand.{phase_of, whole}
 use Rattle.client.proofs.Parts.{first_part, no-parts, part-front, part-back}
-use Rattle.client.proofs.Bare.{eof_k, close_k, requests_k, sending, flushed-whole}
+use Rattle.client.proofs.Bare.{eof_k, close_k, requests_k, sending, shape, flushed-whole}
 
 pub record Sent (k k' : Kept) (q : Request) : Type 0 where
   pub number : k'.number ≡ k.number
@@ -72,19 +72,7 @@ module _ (k : Kept) (run : k.running ≡ true) where
       let m1 : length g + k.credit ≡ length g' + (k.credit - n) = omega arith in
       let e : eof_k k ≡ eof_k k' = ap (λ z. k.eof && (z && not k.said)) (let z : eqb (length (goes_of k)) (length k.waiting) ≡ eqb (length (goes_of k')) (length k'.waiting) = grind (arith, nat_tests) in z) in
       flushed-whole k c g t run
-      ∙ (λ i. record {
-        number = k.number;
-        command = c;
-        phase = cond (close_k k) Closed (phase_of k.running);
-        input = i1 i;
-        sent = s1 i;
-        may = m1 i;
-        eof = k.eof;
-        said = k.said || e i;
-        got = t ++ k.unseen;
-        taken = length t;
-        exit = k.exit;
-      })
+      ∙ (λ i. record (shape k c g t) { input = i1 i; sent = s1 i; may = m1 i; said = k.said || e i })
       ∙ sym (flushed-whole k' c g' t run)
 
   input-facts : eqb (part_of k) 0 ≡ false → NextFacts k (next_of k).channel (next_of k).sends
@@ -112,10 +100,10 @@ module _ (k : Kept) (run : k.running ≡ true) where
     said-not h = go k.eof (eqb (length (goes_of k)) (length k.waiting)) k.said h
       where
         go : (a b d : Bool) → (a && (b && not d)) ≡ true → d ≡ false
-        go true true true e = absurd (let z : ◌≡◌ {A = ℕ} 0 1 = cc in omega arith)
+        go true true true e = cc
         go true true false e = refl
-        go true false d e = absurd (let z : ◌≡◌ {A = ℕ} 0 1 = cc in omega arith)
-        go false b d e = absurd (let z : ◌≡◌ {A = ℕ} 0 1 = cc in omega arith)
+        go true false d e = cc
+        go false b d e = cc
 
     emptied : (z : List Request) → inputs (parts (length (goes_of k)) 1024 (goes_of k)) ++ z ≡ z
     unfolding inputs
@@ -133,19 +121,7 @@ module _ (k : Kept) (run : k.running ≡ true) where
           sends = ends ∙ ap (λ z. cond z (Eof ∷ []) [] ++ cond (close_k k) (Close ∷ []) []) h ∙ ap (λ z. Eof ∷ z) (sym one);
           flush = λ c g t. (
             g,
-            flushed-whole k c g t run ∙ (λ i. record {
-              number = k.number;
-              command = c;
-              phase = cond (close_k k) Closed (phase_of k.running);
-              input = g ++ k.waiting;
-              sent = length g + length (goes_of k);
-              may = length g + k.credit;
-              eof = k.eof;
-              said = or-true k.said (eof_k k) h i;
-              got = t ++ k.unseen;
-              taken = length t;
-              exit = k.exit;
-            }) ∙ sym (flushed-whole k' c g t run),
+            flushed-whole k c g t run ∙ (λ i. record (shape k c g t) { said = or_right k.said (eof_k k) h i }) ∙ sym (flushed-whole k' c g t run),
           );
         })
       where
@@ -153,10 +129,6 @@ module _ (k : Kept) (run : k.running ≡ true) where
         and_last true true = refl
         and_last true false = refl
         and_last false b = refl
-
-        or-true : (a b : Bool) → b ≡ true → (a || b) ≡ true
-        or-true true b e = refl
-        or-true false b e = e
 
         gone : inputs (parts (length (goes_of k)) 1024 (goes_of k)) ++ (cond (eof_k (said_of k)) (Eof ∷ []) [] ++ cond (close_k k) (Close ∷ []) []) ≡ cond (eof_k (said_of k)) (Eof ∷ []) [] ++ cond (close_k k) (Close ∷ []) []
         gone = emptied (cond (eof_k (said_of k)) (Eof ∷ []) [] ++ cond (close_k k) (Close ∷ []) [])

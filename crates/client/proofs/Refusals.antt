@@ -4,7 +4,7 @@ use Rattle.std.proofs.lemmas.List.{length-append}
 use Rattle.std.proofs.lemmas.Bool.Decides.{nat_tests}
 use Rattle.model.specs.Keyed.{find, above, numbers, count}
 use Rattle.model.specs.Messages.{real}
-use Rattle.model.specs.Client.{Client, number_of, is_held, channel_at, LogIn, Start, Enter, Finish, Take, BadNumber, TooManyHeld, NotHeld, AfterEof, TooMuch, Down, unless, refusal, found_held, found_eof, found_full, bad_number, held_count}
+use Rattle.model.specs.Client.{Client, number_of, is_held, channel_at, LogIn, Start, Enter, Finish, Take, BadNumber, TooManyHeld, NotHeld, AfterEof, TooMuch, Down, unless, refusal, found_held, found_full, bad_number, held_count}
 use Rattle.client_channel.specs.Kept.{Kept}
 use Rattle.client.specs.View.{View}
 use Rattle.client.specs.Stand.{whole, StandsFor, busy}
@@ -24,13 +24,13 @@ module _ (v : View) (w : Client) (s : StandsFor v w) (b : busy v ≡ false) (a :
 
   module _ (t : ℕ) (h : (i : ℕ) (d : Kept) → i < length v.kepts → (get_or v.kepts i d).number ≡ t → ⊥) where
     pub enter-absent : (bs : List ℕ) → refusal (real a m) (Enter t bs) w ≡ Some NotHeld
-    enter-absent bs = ap (λ z. unless (not z) NotHeld (unless (not w.up) Down (unless (found_eof (channel_at t w)) AfterEof (unless (found_full (real a m) (length bs) (channel_at t w)) TooMuch None)))) (not_found t (absent-at t h))
+    enter-absent bs = rw (not_found t (absent-at t h))
 
     pub finish-absent : refusal (real a m) (Finish t) w ≡ Some NotHeld
-    finish-absent = ap (λ z. unless (not z) NotHeld (unless (not w.up) Down (unless (found_eof (channel_at t w)) AfterEof None))) (not_found t (absent-at t h))
+    finish-absent = rw (not_found t (absent-at t h))
 
     pub take-absent : (n : ℕ) → refusal (real a m) (Take t n) w ≡ Some NotHeld
-    take-absent n = ap (λ z. unless (not z) NotHeld None) (not_found t (absent-at t h))
+    take-absent n = rw (not_found t (absent-at t h))
 
   module _ (i : ℕ) (d : Kept) (l : i < length v.kepts) where
     abbrev k : Kept
@@ -49,27 +49,19 @@ module _ (v : View) (w : Client) (s : StandsFor v w) (b : busy v ≡ false) (a :
     enter-at bs =
         let f : found_full (real a m) (length bs) (channel_at k.number w) ≡ ltb 16384 (length k.waiting + length bs) =
         ap (found_full (real a m) (length bs)) found_at ∙ (let e = length-append o.went k.waiting in let z : ltb (length o.went + 16384) (length (o.went ++ k.waiting) + length bs) ≡ ltb 16384 (length k.waiting + length bs) = grind (arith, nat_tests) in z) in
-        ap (λ z. unless (not z) NotHeld (unless (not w.up) Down (unless (found_eof (channel_at k.number w)) AfterEof (unless (found_full (real a m) (length bs) (channel_at k.number w)) TooMuch None)))) held_at
-        ∙ ap (λ z. unless (not z) Down (unless (found_eof (channel_at k.number w)) AfterEof (unless (found_full (real a m) (length bs) (channel_at k.number w)) TooMuch None))) s.up
-        ∙ ap (λ z. unless (not v.up) Down (unless (found_eof z) AfterEof (unless (found_full (real a m) (length bs) (channel_at k.number w)) TooMuch None))) found_at
-        ∙ ap (λ z. unless (not v.up) Down (unless k.eof AfterEof (unless z TooMuch None))) f
+        rw (held_at, s.up, f, found_at)
 
     pub finish-at : refusal (real a m) (Finish k.number) w ≡ unless (not v.up) Down (unless k.eof AfterEof None)
-    finish-at =
-        ap (λ z. unless (not z) NotHeld (unless (not w.up) Down (unless (found_eof (channel_at k.number w)) AfterEof None))) held_at
-        ∙ ap (λ z. unless (not z) Down (unless (found_eof (channel_at k.number w)) AfterEof None)) s.up
-        ∙ ap (λ z. unless (not v.up) Down (unless (found_eof z) AfterEof None)) found_at
+    finish-at = rw (held_at, s.up, found_at)
 
     pub take_at : (n : ℕ) → refusal (real a m) (Take k.number n) w ≡ None
-    take_at n = ap (λ z. unless (not z) NotHeld None) held_at
+    take_at n = rw held_at
 
   pub login-is : (x : ℕ) (p : List ℕ) → refusal (real a m) (LogIn x p) w ≡ unless (not v.up) Down None
-  login-is x p = ap (λ z. unless (not z) Down None) s.up
+  login-is x p = rw s.up
 
   pub start_is : (t c : ℕ) → refusal (real a m) (Start t c) w ≡ unless (not (leb v.next t) || ltb 65535 t) BadNumber (unless (not (ltb (length v.kepts) 16)) TooManyHeld (unless (not v.up) Down None))
   start_is t c =
       let n : bad_number (real a m) t w ≡ (not (leb v.next t) || ltb 65535 t) = ap (λ z. not (above t (numbers number_of z)) || ltb 65535 t) all-is ∙ ap (λ z. not z || ltb 65535 t) (s.least t) in
       let h : held_count w ≡ length v.kepts = ap (λ z. count is_held z) all-is ∙ count-stand s.stand in
-      ap (λ z. unless z BadNumber (unless (not (ltb (held_count w) 16)) TooManyHeld (unless (not w.up) Down None))) n
-      ∙ ap (λ z. unless (not (leb v.next t) || ltb 65535 t) BadNumber (unless (not (ltb z 16)) TooManyHeld (unless (not w.up) Down None))) h
-      ∙ ap (λ z. unless (not (leb v.next t) || ltb 65535 t) BadNumber (unless (not (ltb (length v.kepts) 16)) TooManyHeld (unless (not z) Down None))) s.up
+      rw (n, h, s.up)

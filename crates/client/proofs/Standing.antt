@@ -11,7 +11,7 @@ use Rattle.client.proofs.Bare.{requests_k, requests-whole, quiet-flushed}
 -- a channel that is not held sends nothing
 not-runs : (p : Phase) → holds p ≡ false → runs p ≡ false
 not-runs Asked h = refl
-not-runs Running h = absurd (let z : ◌≡◌ {A = ℕ} 0 1 = cc in omega arith)
+not-runs Running h = cc
 not-runs Refused h = refl
 not-runs Closed h = refl
 
@@ -56,7 +56,7 @@ count-stand (held {ks} {hs} k c g t n s) = ap (λ b. cond b 1 0 + count is_held 
 -- numbers
 pub find-in : (t : ℕ) (hs : List ClientChannel) (x : ClientChannel) → find number_of t hs ≡ Some x → is_in t (numbers number_of hs) ≡ true
 unfolding find numbers is_in
-find-in t [] x h = absurd (let z : ◌≡◌ {A = ℕ} 0 1 = cc in omega arith)
+find-in t [] x h = cc
 find-in t (y ∷ ys) x h = go (eqb y.number t) (λ e. find-in t ys x e) h
   where
     go : (b : Bool) → (find number_of t ys ≡ Some x → is_in t (numbers number_of ys) ≡ true) → cond b (Some y) (find number_of t ys) ≡ Some x → cond b true (is_in t (numbers number_of ys)) ≡ true
@@ -69,7 +69,7 @@ change-none t f [] h = refl
 change-none t f (y ∷ ys) h = go (eqb y.number t) (λ e. change-none t f ys e) h
   where
     go : (b : Bool) → (is_in t (numbers number_of ys) ≡ false → change number_of t f ys ≡ ys) → cond b true (is_in t (numbers number_of ys)) ≡ false → cond b (f y) y ∷ change number_of t f ys ≡ y ∷ ys
-    go true r e = absurd (let z : ◌≡◌ {A = ℕ} 0 1 = cc in omega arith)
+    go true r e = cc
     go false r e = ap (λ z. y ∷ z) (r e)
 
 pub is_in-push : (n : ℕ) (hs : List ClientChannel) (y : ClientChannel) → is_in n (numbers number_of (hs ++ y ∷ [])) ≡ (is_in n (numbers number_of hs) || eqb y.number n)
@@ -125,7 +125,7 @@ pub record Focus (ks : List Kept) (hs : List ClientChannel) (i : ℕ) (k : Kept)
 
 -- past a channel of another number
 other : (n t : ℕ) (hs : List ClientChannel) → is_in n (numbers number_of hs) ≡ false → is_in t (numbers number_of hs) ≡ true → eqb n t ≡ false
-other n t hs a b = ne_eqb n t (λ e. absurd (let q : is_in n (numbers number_of hs) ≡ true = ap (λ j. is_in j (numbers number_of hs)) e ∙ b in let z : ◌≡◌ {A = ℕ} 0 1 = cc in omega arith))
+other n t hs a b = ne_eqb n t (λ e. let q : is_in n (numbers number_of hs) ≡ true = ap (λ j. is_in j (numbers number_of hs)) e ∙ b in cc)
 
 over-find : (x : ClientChannel) (t : ℕ) (hs : List ClientChannel) → eqb x.number t ≡ false → find number_of t (x ∷ hs) ≡ find number_of t hs
 unfolding find

@@ -52,10 +52,14 @@ pub record TooEarly (c d : Client) : Type 0 where
   pub busy : is_busy c ≡ true
   pub same : d ≡ c
 
+-- a command that was not obeyed
+abbrev pub Stopped : Command → Client → Refused → Client → Type 0
+Stopped k c refused.Busy d = TooEarly c d
+Stopped k c (refused.By f) d = Refuses k c f d
+
 abbrev pub Obeyed : {T : Type 0} → Command → Client → Result T Refused → Client → Type 0
 Obeyed k c (Ok x) d = Obeys k c d
-Obeyed k c (Err refused.Busy) d = TooEarly c d
-Obeyed k c (Err (refused.By f)) d = Refuses k c f d
+Obeyed k c (Err e) d = Stopped k c e d
 
 -- what the user gets who takes from a channel: its output that was not taken yet, as much as there is and fits
 pub record Gets (t : ℕ) (c : Client) (out : List ℕ) (n : ℕ) (now : List ℕ) : Type 0 where

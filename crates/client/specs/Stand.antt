@@ -1,5 +1,6 @@
 -- Which clients of the model a value may stand for, and which messages it still owes. Assumes nothing.
-use Rattle.std.specs.Prelude.{◌≡◌, ℕ, ◌+◌, ◌<◌, ◌≤◌, Bool, true, false, cond, ◌||◌, List, [], ◌∷◌, ◌++◌, map, length, ◌≢◌, nat_le, nat_lt, slice_index_or}
+use Rattle.std.specs.Prelude.{◌≡◌, ℕ, ◌+◌, ◌<◌, Bool, true, false, cond, ◌||◌, List, [], ◌∷◌, ◌++◌, map, length, Some, None, Option, ◌≢◌, nat_le, slice_index_or}
+use Rattle.std.specs.Option as option
 use Rattle.model.specs.Keyed.{numbers, is_in, above, gather, each}
 use Rattle.model.specs.Messages.{ToServer, Rules, real}
 use Rattle.model.specs.Client.{Phase, Asked, Running, ClientChannel, Client, number_of, is_held, requests, requests_of, flushed}
@@ -41,9 +42,9 @@ pub data Stand : List Kept → List ClientChannel → Type 0 where
   past : {ks : List Kept} {hs : List ClientChannel} (x : ClientChannel) → is_held x ≡ false → is_in x.number (numbers number_of hs) ≡ false → Stand ks hs → Stand ks (x ∷ hs)
   held : {ks : List Kept} {hs : List ClientChannel} (k : Kept) (command : ℕ) (went taken : List ℕ) → is_in k.number (numbers number_of hs) ≡ false → Stand ks hs → Stand (k ∷ ks) (whole k command went taken ∷ hs)
 
--- all but the one at that index have nothing to send
-unfoldable pub QuietBut : ℕ → List Kept → Type 0
-QuietBut turn ks = (i : ℕ) (d : Kept) → i < length ks → (i ≢ turn) → requests limits (bare (slice_index_or ks i d)) ≡ []
+-- all but the one at that place have nothing to send
+unfoldable pub QuietBut : Option ℕ → List Kept → Type 0
+QuietBut turn ks = (i : ℕ) (d : Kept) → i < length ks → (turn ≢ Some i) → requests limits (bare (slice_index_or ks i d)) ≡ []
 
 -- The model's client is the value's after what is owed was sent. Channels that were flushed have nothing left to send; a value that is down owes nothing.
 pub record StandsFor (v : View) (w : Client) : Type 0 where
@@ -52,11 +53,10 @@ pub record StandsFor (v : View) (w : Client) : Type 0 where
   pub channels : w.channels ≡ cond v.up (each flushed all) all
   pub accepted : w.accepted ≡ v.accepted
   pub up : w.up ≡ v.up
-  pub used : (n : ℕ) → slice_index_or v.marks n false ≡ is_in n (numbers number_of all)
+  pub used : (n : ℕ) → v.is_used n ≡ is_in n (numbers number_of all)
   pub least : (n : ℕ) → above n (numbers number_of all) ≡ nat_le v.next n
-  pub full : length v.marks ≡ 65536
   pub quiet : v.up ≡ true → QuietBut v.turn v.kepts
-  pub down : v.up ≡ false → (v.pending ≡ []) × (length v.kepts ≤ v.turn)
+  pub down : v.up ≡ false → (v.pending ≡ []) × (v.turn ≡ None)
 
 -- the messages that are still to be handed out: what the command itself sends, then channel by channel what goes by itself
 unfoldable pub owed_by : View → List ToServer
@@ -68,4 +68,4 @@ is_some (m ∷ ms) = true
 
 -- whether messages may still be owed: no call but next_message is taken
 abbrev pub busy : View → Bool
-busy v = is_some v.pending || nat_lt v.turn (length v.kepts)
+busy v = is_some v.pending || option.is_some v.turn

@@ -1,13 +1,13 @@
 -- What the client's value holds, without the past. Assumes nothing.
-use Rattle.std.specs.Prelude.{ℕ, Bool, List, [], ◌∷◌, map}
+use Rattle.std.specs.Prelude.{ℕ, Bool, List, [], ◌∷◌, Some, None, Option}
 use Rattle.model.specs.Messages as model
 use Rattle.model.specs.Client as side
-use Rattle.client_channel.specs.Kept.{Bytes, Kept, kept}
-use Rattle.held.specs.Views.{entries_of, pool_of, bytes_at, marks_of}
-use Rattle.held.specs.declared.table.Entry.{Entry}
+use Rattle.message.specs.Views.{to_server}
+use Rattle.message.specs.declared.to_server.ToServer.{ToServer}
+use Rattle.client_channel.specs.Kept.{Kept}
+use Rattle.client.specs.Kepts.{kepts_of}
+use Rattle.numbers.specs.Has.{has}
 use Rattle.client.specs.declared.value.Client.{Client}
-use Rattle.client.specs.declared.value.Pending.{Pending}
-use Rattle.client.specs.declared.value.Pending.TheVariants.{Nothing, Login, Run, Credit}
 use Rattle.client.specs.declared.refusal.Refusal.{Refusal}
 use Rattle.client.specs.declared.refusal.Refusal.TheVariants.{BadNumber, TooManyHeld, NotHeld, AfterEof, TooMuch, Down}
 
@@ -20,33 +20,25 @@ refusal_of TooMuch = side.TooMuch
 refusal_of Down = side.Down
 
 -- the channels that are held, in rising order; which numbers were used; the least above them; what the last command itself sends;
--- the index of the one channel that may have something to send
+-- the place of the one channel that may have something to send
 pub record View : Type 0 where
   pub kepts : List Kept
-  pub marks : List Bool
+  pub is_used : ℕ → Bool
   pub next : ℕ
   pub accepted : Bool
   pub up : Bool
   pub pending : List model.ToServer
-  pub turn : ℕ
+  pub turn : Option ℕ
 
-abbrev pub pending_of : Pending → List model.ToServer
-pending_of Nothing = []
-pending_of (Login u p) = model.Login u p ∷ []
-pending_of (Run t k) = model.For t (model.Run k) ∷ []
-pending_of (Credit t n) = model.For t (model.OutputCredit n) ∷ []
-
-abbrev pub kept_at : List Bytes → Entry → Kept
-kept_at bs e = kept e.channel (bytes_at bs e.slot)
-
-unfoldable pub kepts_at : List Entry → List Bytes → List Kept
-kepts_at es bs = map (kept_at bs) es
+abbrev pub pending_of : Option ToServer → List model.ToServer
+pending_of None = []
+pending_of (Some m) = to_server m ∷ []
 
 abbrev pub view_of : Client → View
 view_of c =
     record {
-      kepts = kepts_at (entries_of c.table) (pool_of c.pool);
-      marks = marks_of c.used;
+      kepts = kepts_of c.channels;
+      is_used = has c.used;
       next = c.next;
       accepted = c.accepted;
       up = c.up;

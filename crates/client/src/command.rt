@@ -5,38 +5,29 @@ ghost use Rattle.client.specs.View.{pending_of};
 ghost use Rattle.client.specs.Contract.{Obeyed, Taken};
 
 use crate::refusal::{Refusal, Refused};
-use crate::value::{Client, Pending};
-use client_channel::state::Channel;
-use held::table::MOST;
-
-// The greatest channel number.
-pub const LAST: u32 = 65535;
+use crate::value::Client;
+use client_channel::held::Held;
+use message::to_server::{Request, ToServer};
 
 // What taking so many bytes sends.
-fn credit(channel: u16, count: usize) -> Pending
+fn credit(channel: u16, count: usize) -> Option<ToServer>
     requires { count ≤ 8192 }
     ensures { pending_of result ≡ output_credit channel count }
 {
     if count == 0 {
-        return Pending::Nothing;
+        return None;
     }
-    Pending::Credit {
-        channel,
-        count: count as u32,
-    }
+    let request = Request::OutputCredit(count as u32);
+    Some(ToServer::For { channel, request })
 }
 
 impl Client {
     pub fn login(&mut self, user: u8, proof: [u8; 32]) -> Result<(), Refused>
         ensures { Obeyed (LogIn user proof) self.old result self.new }
     {
-        if self.is_busy() {
-            return Err(Refused::Busy);
-        }
-        if !self.up {
-            return Err(Refused::By(Refusal::Down));
-        }
-        self.pending = Pending::Login { user, proof };
+        self.ready()?;
+        self.connected()?;
+        self.pending = Some(ToServer::Login { user, proof });
         Ok(())
     }
 
@@ -44,27 +35,19 @@ impl Client {
     pub fn run(&mut self, channel: u32, command: u8) -> Result<(), Refused>
         ensures { Obeyed (Start channel command) self.old result self.new }
     {
-        if self.is_busy() {
-            return Err(Refused::Busy);
+        self.ready()?;
+        let number = self.unused(channel)?;
+        if self.channels.is_full() {
+            return Err(Refusal::TooManyHeld.into());
         }
-        if channel < self.next || channel > LAST {
-            return Err(Refused::By(Refusal::BadNumber));
-        }
-        if self.table.len() >= MOST {
-            return Err(Refused::By(Refusal::TooManyHeld));
-        }
-        if !self.up {
-            return Err(Refused::By(Refusal::Down));
-        }
-        let number = channel as u16;
-        let slot = self.table.push(Channel::new(number));
-        self.pool.clear(slot);
+        self.connected()?;
+        self.channels.start(|memory| Held::start(memory, number));
         self.used.insert(number);
         self.next = channel + 1;
-        self.pending = Pending::Run {
+        self.pending = Some(ToServer::For {
             channel: number,
-            command,
-        };
+            request: Request::Run { command },
+        });
         Ok(())
     }
 
@@ -72,24 +55,13 @@ impl Client {
     pub fn input(&mut self, channel: u32, bytes: &[u8]) -> Result<(), Refused>
         ensures { Obeyed (Enter channel bytes.now) self.old result self.new }
     {
-        if self.is_busy() {
-            return Err(Refused::Busy);
+        let i = self.open(channel)?;
+        if bytes.len() > self.channels.held[i].buffers.input.room() {
+            return Err(Refusal::TooMuch.into());
         }
-        let Some(i) = self.table.find(channel) else {
-            return Err(Refused::By(Refusal::NotHeld));
-        };
-        if !self.up {
-            return Err(Refused::By(Refusal::Down));
-        }
-        let entry = self.table.get(i);
-        if entry.channel.eof {
-            return Err(Refused::By(Refusal::AfterEof));
-        }
-        if bytes.len() > self.pool.input_room(entry.slot) {
-            return Err(Refused::By(Refusal::TooMuch));
-        }
-        self.pool.append_input(entry.slot, bytes);
-        self.turn = i;
+        let held = &mut self.channels.held[i];
+        held.buffers.input.append(bytes);
+        self.turn = Some(i);
         Ok(())
     }
 
@@ -97,27 +69,10 @@ impl Client {
     pub fn eof(&mut self, channel: u32) -> Result<(), Refused>
         ensures { Obeyed (Finish channel) self.old result self.new }
     {
-        if self.is_busy() {
-            return Err(Refused::Busy);
-        }
-        let Some(i) = self.table.find(channel) else {
-            return Err(Refused::By(Refusal::NotHeld));
-        };
-        if !self.up {
-            return Err(Refused::By(Refusal::Down));
-        }
-        let entry = self.table.get(i);
-        if entry.channel.eof {
-            return Err(Refused::By(Refusal::AfterEof));
-        }
-        self.table.put(
-            i,
-            Channel {
-                eof: true,
-                ..entry.channel
-            },
-        );
-        self.turn = i;
+        let i = self.open(channel)?;
+        let held = &mut self.channels.held[i];
+        held.channel.eof = true;
+        self.turn = Some(i);
         Ok(())
     }
 
@@ -126,17 +81,14 @@ impl Client {
         ensures obeyed { Obeyed (Take channel (length out.old)) self.old result self.new }
         ensures taken { Taken channel self.old out.old result out.new }
     {
-        if self.is_busy() {
-            return Err(Refused::Busy);
-        }
-        let Some(i) = self.table.find(channel) else {
-            return Err(Refused::By(Refusal::NotHeld));
-        };
-        let entry = self.table.get(i);
-        let count = self.pool.take_output(entry.slot, out);
+        self.ready()?;
+        let i = self.place(channel)?;
+        let held = &mut self.channels.held[i];
+        let number = held.channel.number;
+        let count = held.buffers.output.take(out);
         if self.up {
-            self.pending = credit(entry.channel.number, count);
-            self.turn = i;
+            self.pending = credit(number, count);
+            self.turn = Some(i);
         }
         Ok(count)
     }

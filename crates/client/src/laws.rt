@@ -2,8 +2,6 @@
 ghost use Rattle.client.specs.IsClient.{IsClient};
 
 // The value is a client, in a world of any programs.
-pub fn is_client<S, E>() -> u8
+pub fn is_client<S, E>()
     ensures { IsClient S E }
-{
-    0
-}
+{}

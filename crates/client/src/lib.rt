@@ -1,6 +1,7 @@
 // The client of a remote shell as a value: commands of the user, messages of the server, and the next message to send.
 #![tactic(auto)]
 
+mod checks;
 pub mod command;
 pub mod laws;
 pub mod receive;

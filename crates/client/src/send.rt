@@ -4,8 +4,7 @@ ghost use Rattle.client.specs.View.{pending_of};
 ghost use Rattle.client.specs.Contract.{Hands, Cut};
 
 use crate::refusal::Refused;
-use crate::value::{Client, Pending};
-use held::table::MOST;
+use crate::value::Client;
 use message::to_server::{Request, ToServer};
 
 impl Client {
@@ -14,23 +13,17 @@ impl Client {
         requires { pending_of self.old.pending ≡ [] }
         ensures { Hands self.old result self.new }
     {
-        let i = self.turn;
-        if i >= self.table.len() {
-            return None;
-        }
-        let entry = self.table.get(i);
-        let (channel, request) = self.pool.next(entry.slot, entry.channel);
-        let Some(request) = request else {
-            self.turn = MOST;
+        let i = self.turn?;
+        let held = &mut self.channels.held[i];
+        let channel = held.channel.number;
+        let Some(request) = held.channel.next(&mut held.buffers) else {
+            self.turn = None;
             return None;
         };
         if let Request::Close = request {
-            self.table.remove(i);
-            self.turn = MOST;
-        } else {
-            self.table.put(i, channel);
+            self.turn = None;
+            self.channels.forget(i);
         }
-        let channel = entry.channel.number;
         Some(ToServer::For { channel, request })
     }
 
@@ -38,32 +31,17 @@ impl Client {
     pub fn next_message(&mut self) -> Option<ToServer>
         ensures { Hands self.old result self.new }
     {
-        match self.pending {
-            Pending::Nothing => self.next_of_turn(),
-            Pending::Login { user, proof } => {
-                self.pending = Pending::Nothing;
-                Some(ToServer::Login { user, proof })
-            }
-            Pending::Run { channel, command } => {
-                self.pending = Pending::Nothing;
-                let request = Request::Run { command };
-                Some(ToServer::For { channel, request })
-            }
-            Pending::Credit { channel, count } => {
-                self.pending = Pending::Nothing;
-                let request = Request::OutputCredit(count);
-                Some(ToServer::For { channel, request })
-            }
+        if let Some(message) = self.pending.take() {
+            return Some(message);
         }
+        self.next_of_turn()
     }
 
     // The connection is cut here.
     pub fn cut(&mut self) -> Result<(), Refused>
         ensures { Cut self.old result self.new }
     {
-        if self.is_busy() {
-            return Err(Refused::Busy);
-        }
+        self.ready()?;
         self.up = false;
         Ok(())
     }

@@ -1,55 +1,50 @@
 // The client's state, and how it begins.
-ghost use Rattle.std.specs.Prelude.{◌≡◌, IfOk};
-ghost use Rattle.client.specs.View.{view_of};
-ghost use Rattle.client.specs.Stand.{busy};
-ghost use Rattle.client.specs.Contract.{Begins};
+ghost use Rattle.std.specs.Prelude.{◌≡◌, ◌<◌, IfOk, vec_len};
+ghost use Rattle.std.specs.Option.{ForSome};
 
-use held::pool::Pool;
-use held::table::{MOST, Table};
-use held::used::Used;
+use client_channel::buffers::Buffers;
+use client_channel::held::Held;
+use held::Table;
+use message::to_server::ToServer;
+use numbers::Numbers;
 use std::alloc::{AllocError, Global};
-
-// What a command itself sends, until it is handed out.
-#[derive(Clone, Copy)]
-pub enum Pending {
-    Nothing,
-    Login { user: u8, proof: [u8; 32] },
-    Run { channel: u16, command: u8 },
-    Credit { channel: u16, count: u32 },
-}
 
 #[derive(Drop)]
 pub struct Client {
-    pub(crate) table: Table,
-    pub(crate) pool: Pool,
-    pub(crate) used: Used,
+    pub(crate) channels: Table<Held, Buffers>,
+    pub(crate) used: Numbers,
     // the least number above all that were used
     pub(crate) next: u32,
     // whether it was told that its login is accepted
     pub(crate) accepted: bool,
     // whether the connection holds here
     pub(crate) up: bool,
-    pub(crate) pending: Pending,
-    // the index of the one channel that may have something to send; at the table's length or beyond: none
-    pub(crate) turn: usize,
+    // what a command itself sends, until it is handed out
+    pub(crate) pending: Option<ToServer>,
+    // the place of the one channel that may have something to send
+    pub(crate) turn: Option<usize>,
+    ghost turn_held: { ForSome turn (λ i. i < vec_len channels.held) },
 }
 
 impl Client {
+    ghost use Rattle.client.specs.View.{view_of};
+    ghost use Rattle.client.specs.Stand.{busy};
+    ghost use Rattle.client.specs.Contract.{Begins};
+
     // All memory is got here; `Err` where there is too little.
     pub fn new(heap: Global) -> Result<Client, AllocError>
         ensures { IfOk result Begins }
     {
-        let pool = Pool::new(heap)?;
-        let used = Used::new(heap)?;
+        let channels = Table::new(heap)?;
+        let used = Numbers::new(heap)?;
         Ok(Client {
-            table: Table::new(),
-            pool,
+            channels,
             used,
             next: 0,
             accepted: false,
             up: true,
-            pending: Pending::Nothing,
-            turn: MOST,
+            pending: None,
+            turn: None,
         })
     }
 
@@ -57,10 +52,7 @@ impl Client {
     pub fn is_busy(&self) -> bool
         ensures { result ≡ busy (view_of self.now) }
     {
-        match self.pending {
-            Pending::Nothing => self.turn < self.table.len(),
-            _ => true,
-        }
+        self.pending.is_some() || self.turn.is_some()
     }
 
     pub fn is_up(&self) -> bool

@@ -1,6 +1,8 @@
 // One channel from login to close, and what comes too early or too late.
-use crate::{chunk, kind, of, refused, rejected};
+use crate::sent::{Sent, chunk, next, of};
+use client::refusal::{Refusal, Refused, Rejected};
 use client::value::Client;
+use message::fault::Fault;
 use message::to_client::{Reply, ToClient};
 use std::process::Abort;
 use std::test::Fail;
@@ -8,25 +10,25 @@ use std::test::Fail;
 // A client with channel 5 running.
 fn running(rt: &(impl Abort + AllocGlobal)) -> Result<Client, Fail> {
     let mut c = Client::new(rt.alloc())?;
-    assert_eq!(rt; refused(c.run(5, 1)), 0);
-    assert_eq!(rt; kind(c.next_message()), (2, 5));
-    assert_eq!(rt; kind(c.next_message()), (0, 0));
-    assert_eq!(rt; rejected(c.receive(of(5, Reply::Runs(true)))), 0);
-    assert_eq!(rt; kind(c.next_message()), (0, 0));
+    assert_eq!(rt; c.run(5, 1), Ok(()));
+    assert_eq!(rt; next(&mut c), Some(Sent::Run(5)));
+    assert_eq!(rt; next(&mut c), None);
+    assert_eq!(rt; c.receive(of(5, Reply::Runs(true))), Ok(()));
+    assert_eq!(rt; next(&mut c), None);
     Ok(c)
 }
 
 #[test]
 fn login(rt: HostRuntime) -> Result<(), Fail> {
     let mut c = Client::new(rt.alloc())?;
-    assert_eq!(rt; refused(c.login(7, [0; 32])), 0);
-    assert_eq!(rt; refused(c.login(7, [0; 32])), 1);
-    assert_eq!(rt; rejected(c.receive(ToClient::Tock)), 1);
-    assert_eq!(rt; kind(c.next_message()), (1, 7));
-    assert_eq!(rt; kind(c.next_message()), (0, 0));
+    assert_eq!(rt; c.login(7, [0; 32]), Ok(()));
+    assert_eq!(rt; c.login(7, [0; 32]), Err(Refused::Busy));
+    assert_eq!(rt; c.receive(ToClient::Tock), Err(Rejected::Busy));
+    assert_eq!(rt; next(&mut c), Some(Sent::Login(7)));
+    assert_eq!(rt; next(&mut c), None);
     assert!(rt; !c.is_accepted());
-    assert_eq!(rt; rejected(c.receive(ToClient::Accepted(true))), 0);
-    assert_eq!(rt; rejected(c.receive(ToClient::Accepted(false))), 0);
+    assert_eq!(rt; c.receive(ToClient::Accepted(true)), Ok(()));
+    assert_eq!(rt; c.receive(ToClient::Accepted(false)), Ok(()));
     assert!(rt; c.is_accepted());
     Ok(())
 }
@@ -35,21 +37,21 @@ fn login(rt: HostRuntime) -> Result<(), Fail> {
 #[test]
 fn input_in_parts(rt: HostRuntime) -> Result<(), Fail> {
     let mut c = running(&rt)?;
-    assert_eq!(rt; rejected(c.receive(of(5, Reply::InputCredit(1500)))), 0);
-    assert_eq!(rt; kind(c.next_message()), (0, 0));
-    assert_eq!(rt; refused(c.input(5, &[65; 2000])), 0);
-    assert_eq!(rt; kind(c.next_message()), (3, 1024));
-    assert_eq!(rt; refused(c.eof(5)), 1);
-    assert_eq!(rt; kind(c.next_message()), (3, 476));
-    assert_eq!(rt; kind(c.next_message()), (0, 0));
-    assert_eq!(rt; refused(c.eof(5)), 0);
-    assert_eq!(rt; kind(c.next_message()), (0, 0));
-    assert_eq!(rt; refused(c.eof(5)), 8);
-    assert_eq!(rt; refused(c.input(5, &[66; 1])), 8);
-    assert_eq!(rt; rejected(c.receive(of(5, Reply::InputCredit(500)))), 0);
-    assert_eq!(rt; kind(c.next_message()), (3, 500));
-    assert_eq!(rt; kind(c.next_message()), (5, 5));
-    assert_eq!(rt; kind(c.next_message()), (0, 0));
+    assert_eq!(rt; c.receive(of(5, Reply::InputCredit(1500))), Ok(()));
+    assert_eq!(rt; next(&mut c), None);
+    assert_eq!(rt; c.input(5, &[65; 2000]), Ok(()));
+    assert_eq!(rt; next(&mut c), Some(Sent::Input(1024)));
+    assert_eq!(rt; c.eof(5), Err(Refused::Busy));
+    assert_eq!(rt; next(&mut c), Some(Sent::Input(476)));
+    assert_eq!(rt; next(&mut c), None);
+    assert_eq!(rt; c.eof(5), Ok(()));
+    assert_eq!(rt; next(&mut c), None);
+    assert_eq!(rt; c.eof(5), Err(Refused::By(Refusal::AfterEof)));
+    assert_eq!(rt; c.input(5, &[66; 1]), Err(Refused::By(Refusal::AfterEof)));
+    assert_eq!(rt; c.receive(of(5, Reply::InputCredit(500))), Ok(()));
+    assert_eq!(rt; next(&mut c), Some(Sent::Input(500)));
+    assert_eq!(rt; next(&mut c), Some(Sent::Eof(5)));
+    assert_eq!(rt; next(&mut c), None);
     Ok(())
 }
 
@@ -57,10 +59,10 @@ fn input_in_parts(rt: HostRuntime) -> Result<(), Fail> {
 #[test]
 fn most_waiting(rt: HostRuntime) -> Result<(), Fail> {
     let mut c = running(&rt)?;
-    assert_eq!(rt; refused(c.input(5, &[65; 16384])), 0);
-    assert_eq!(rt; kind(c.next_message()), (0, 0));
-    assert_eq!(rt; refused(c.input(5, &[65; 1])), 8);
-    assert_eq!(rt; refused(c.input(5, &[])), 0);
+    assert_eq!(rt; c.input(5, &[65; 16384]), Ok(()));
+    assert_eq!(rt; next(&mut c), None);
+    assert_eq!(rt; c.input(5, &[65; 1]), Err(Refused::By(Refusal::TooMuch)));
+    assert_eq!(rt; c.input(5, &[]), Ok(()));
     Ok(())
 }
 
@@ -69,22 +71,22 @@ fn most_waiting(rt: HostRuntime) -> Result<(), Fail> {
 fn taken_to_the_end(rt: HostRuntime) -> Result<(), Fail> {
     let mut c = running(&rt)?;
     let output = chunk(b"hello");
-    assert_eq!(rt; rejected(c.receive(of(5, Reply::Output(output)))), 0);
-    assert_eq!(rt; kind(c.next_message()), (0, 0));
-    assert_eq!(rt; rejected(c.receive(of(5, Reply::Exit { status: 3 }))), 0);
-    assert_eq!(rt; kind(c.next_message()), (0, 0));
+    assert_eq!(rt; c.receive(of(5, Reply::Output(output))), Ok(()));
+    assert_eq!(rt; next(&mut c), None);
+    assert_eq!(rt; c.receive(of(5, Reply::Exit { status: 3 })), Ok(()));
+    assert_eq!(rt; next(&mut c), None);
     let mut out = [0; 4];
-    assert_eq!(rt; c.take(5, &mut out).ok().ok_or("refused")?, 4);
+    assert_eq!(rt; c.take(5, &mut out), Ok(4));
     assert!(rt; out[0] == b'h' && out[3] == b'l');
-    assert_eq!(rt; kind(c.next_message()), (4, 4));
-    assert_eq!(rt; kind(c.next_message()), (0, 0));
-    assert_eq!(rt; c.take(5, &mut out).ok().ok_or("refused")?, 1);
+    assert_eq!(rt; next(&mut c), Some(Sent::Credit(4)));
+    assert_eq!(rt; next(&mut c), None);
+    assert_eq!(rt; c.take(5, &mut out), Ok(1));
     assert!(rt; out[0] == b'o' && out[3] == b'l');
-    assert_eq!(rt; kind(c.next_message()), (4, 1));
-    assert_eq!(rt; kind(c.next_message()), (6, 5));
-    assert_eq!(rt; kind(c.next_message()), (0, 0));
-    assert_eq!(rt; refused(c.take(5, &mut out)), 8);
-    assert_eq!(rt; rejected(c.receive(of(5, Reply::InputCredit(1)))), 0);
+    assert_eq!(rt; next(&mut c), Some(Sent::Credit(1)));
+    assert_eq!(rt; next(&mut c), Some(Sent::Close(5)));
+    assert_eq!(rt; next(&mut c), None);
+    assert_eq!(rt; c.take(5, &mut out), Err(Refused::By(Refusal::NotHeld)));
+    assert_eq!(rt; c.receive(of(5, Reply::InputCredit(1))), Ok(()));
     assert!(rt; c.is_up());
     Ok(())
 }
@@ -95,26 +97,35 @@ fn faults(rt: HostRuntime) -> Result<(), Fail> {
     let mut c = running(&rt)?;
     let output = chunk(&[1; 1024]);
     for _ in 0..8 {
-        assert_eq!(rt; rejected(c.receive(of(5, Reply::Output(output)))), 0);
-        assert_eq!(rt; kind(c.next_message()), (0, 0));
+        assert_eq!(rt; c.receive(of(5, Reply::Output(output))), Ok(()));
+        assert_eq!(rt; next(&mut c), None);
     }
-    assert_eq!(rt; rejected(c.receive(of(5, Reply::Output(output)))), 4);
+    assert_eq!(rt;
+        c.receive(of(5, Reply::Output(output))),
+        Err(Rejected::For(Fault::BeyondWindow))
+    );
     assert!(rt; !c.is_up());
-    assert_eq!(rt; rejected(c.receive(ToClient::Tock)), 2);
-    assert_eq!(rt; refused(c.input(5, &[1])), 8);
-    assert_eq!(rt; refused(c.login(1, [0; 32])), 8);
+    assert_eq!(rt; c.receive(ToClient::Tock), Err(Rejected::Down));
+    assert_eq!(rt; c.input(5, &[1]), Err(Refused::By(Refusal::Down)));
+    assert_eq!(rt; c.login(1, [0; 32]), Err(Refused::By(Refusal::Down)));
     let mut out = [0; 9000];
-    assert_eq!(rt; c.take(5, &mut out).ok().ok_or("refused")?, 8192);
-    assert_eq!(rt; kind(c.next_message()), (0, 0));
+    assert_eq!(rt; c.take(5, &mut out), Ok(8192));
+    assert_eq!(rt; next(&mut c), None);
     Ok(())
 }
 
 #[test]
 fn out_of_turn(rt: HostRuntime) -> Result<(), Fail> {
     let mut c = running(&rt)?;
-    assert_eq!(rt; rejected(c.receive(of(5, Reply::Runs(true)))), 3);
+    assert_eq!(rt;
+        c.receive(of(5, Reply::Runs(true))),
+        Err(Rejected::For(Fault::OutOfTurn))
+    );
     let mut d = running(&rt)?;
-    assert_eq!(rt; rejected(d.receive(of(6, Reply::Exit { status: 0 }))), 4);
+    assert_eq!(rt;
+        d.receive(of(6, Reply::Exit { status: 0 })),
+        Err(Rejected::For(Fault::NeverStarted))
+    );
     assert!(rt; !d.is_up());
     Ok(())
 }
@@ -122,12 +133,12 @@ fn out_of_turn(rt: HostRuntime) -> Result<(), Fail> {
 #[test]
 fn cut_short(rt: HostRuntime) -> Result<(), Fail> {
     let mut c = running(&rt)?;
-    assert_eq!(rt; refused(c.run(6, 1)), 0);
-    assert_eq!(rt; refused(c.cut()), 1);
-    assert_eq!(rt; kind(c.next_message()), (2, 6));
-    assert_eq!(rt; kind(c.next_message()), (0, 0));
-    assert_eq!(rt; refused(c.cut()), 0);
-    assert_eq!(rt; refused(c.run(7, 1)), 8);
-    assert_eq!(rt; refused(c.eof(5)), 8);
+    assert_eq!(rt; c.run(6, 1), Ok(()));
+    assert_eq!(rt; c.cut(), Err(Refused::Busy));
+    assert_eq!(rt; next(&mut c), Some(Sent::Run(6)));
+    assert_eq!(rt; next(&mut c), None);
+    assert_eq!(rt; c.cut(), Ok(()));
+    assert_eq!(rt; c.run(7, 1), Err(Refused::By(Refusal::Down)));
+    assert_eq!(rt; c.eof(5), Err(Refused::By(Refusal::Down)));
     Ok(())
 }

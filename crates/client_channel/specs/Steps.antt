@@ -14,10 +14,10 @@ abbrev pub goes_of : Kept → List ℕ
 goes_of k = take k.credit k.waiting
 
 abbrev pub sent_of : ℕ → Kept → Kept
-sent_of n k = record { number = k.number; running = k.running; credit = k.credit - n; eof = k.eof; said = k.said; exit = k.exit; waiting = drop n k.waiting; unseen = k.unseen }
+sent_of n k = record k { credit = k.credit - n; waiting = drop n k.waiting }
 
 abbrev pub said_of : Kept → Kept
-said_of k = record { number = k.number; running = k.running; credit = k.credit; eof = k.eof; said = true; exit = k.exit; waiting = k.waiting; unseen = k.unseen }
+said_of k = record k { said = true }
 
 pub record Step : Type 0 where
   pub channel : Kept
@@ -44,16 +44,16 @@ next_of k = cond k.running (cond (part_of k == 0) (end_of k) (step_to (sent_of (
 -- what a reply makes of it: a channel that is still held, or none
 abbrev pub runs_of : Bool → Kept → Option Kept
 runs_of false k = None
-runs_of true k = Some (record { number = k.number; running = true; credit = k.credit; eof = k.eof; said = k.said; exit = k.exit; waiting = k.waiting; unseen = k.unseen })
+runs_of true k = Some (record k { running = true })
 
 abbrev pub got_of : List ℕ → Kept → Kept
-got_of bs k = record { number = k.number; running = k.running; credit = k.credit; eof = k.eof; said = k.said; exit = k.exit; waiting = k.waiting; unseen = k.unseen ++ bs }
+got_of bs k = record k { unseen = k.unseen ++ bs }
 
 abbrev pub may_of : ℕ → Kept → Kept
-may_of n k = record { number = k.number; running = k.running; credit = k.credit + n; eof = k.eof; said = k.said; exit = k.exit; waiting = k.waiting; unseen = k.unseen }
+may_of n k = record k { credit = k.credit + n }
 
 abbrev pub exit_of : ℕ → Kept → Kept
-exit_of s k = record { number = k.number; running = k.running; credit = k.credit; eof = k.eof; said = k.said; exit = Some s; waiting = k.waiting; unseen = k.unseen }
+exit_of s k = record k { exit = Some s }
 
 abbrev pub asked_of : model.Reply → Kept → Result (Option Kept) model.Fault
 asked_of (model.Runs b) k = Ok (runs_of b k)

@@ -1,6 +1,6 @@
 // What a channel makes of a reply.
 ghost use Rattle.std.specs.Prelude.{◌≡◌};
-ghost use Rattle.client_channel.specs.Kept.{Bytes, bytes_of, kept};
+ghost use Rattle.client_channel.specs.Kept.{Bytes, kept};
 ghost use Rattle.client_channel.specs.Steps.{seen_heard, UnlessStays, hear_of, asked_of, running_of};
 ghost use Rattle.message.specs.Views.{reply as reply_of, chunk_bytes};
 ghost use Rattle.model.specs.Messages.{Output, InputCredit, Exit};
@@ -27,16 +27,16 @@ impl Channel {
     }
 
     fn hear_output(self, buffers: &mut Buffers, chunk: &Chunk) -> Result<Option<Channel>, Fault>
-        ensures heard { seen_heard result (bytes_of buffers.new) ≡ running_of (Output (chunk_bytes chunk.now)) (kept self (bytes_of buffers.old)) }
-        ensures same { UnlessStays result (bytes_of buffers.new ≡ bytes_of buffers.old) }
+        ensures heard { seen_heard result buffers.new ≡ running_of (Output (chunk_bytes chunk.now)) (kept self buffers.old) }
+        ensures same { UnlessStays result (buffers.new ≡ buffers.old) }
     {
         if self.exit.is_some() {
             return Err(Fault::OutOfTurn);
         }
-        if chunk.len() > buffers.output_room() {
+        if chunk.len() > buffers.output.room() {
             return Err(Fault::BeyondWindow);
         }
-        buffers.append_output(chunk.as_slice());
+        buffers.output.append(chunk.as_slice());
         Ok(Some(self))
     }
 
@@ -63,8 +63,8 @@ impl Channel {
 
     // The channel after the reply, or none where it was refused; or the fault that the reply is.
     pub fn hear(self, buffers: &mut Buffers, reply: Reply) -> Result<Option<Channel>, Fault>
-        ensures heard { seen_heard result (bytes_of buffers.new) ≡ hear_of (reply_of reply) (kept self (bytes_of buffers.old)) }
-        ensures same { UnlessStays result (bytes_of buffers.new ≡ bytes_of buffers.old) }
+        ensures heard { seen_heard result buffers.new ≡ hear_of (reply_of reply) (kept self buffers.old) }
+        ensures same { UnlessStays result (buffers.new ≡ buffers.old) }
     {
         let Phase::Running = self.phase else {
             return self.hear_asked(reply);

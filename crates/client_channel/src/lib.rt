@@ -3,5 +3,6 @@
 
 pub mod buffers;
 pub mod hear;
+pub mod held;
 pub mod send;
 pub mod state;

@@ -1,6 +1,6 @@
 // A channel's counts, a plain value.
-ghost use Rattle.std.specs.Prelude.{◌≡◌, []};
-ghost use Rattle.client_channel.specs.Kept.{kept, pair, fresh};
+ghost use Rattle.std.specs.Prelude.{◌≡◌};
+ghost use Rattle.client_channel.specs.Kept.{kept, no_bytes, fresh};
 
 // Its start was sent; it was told that it runs. A channel that was refused or closed is no longer held.
 #[derive(Clone, Copy)]
@@ -16,6 +16,7 @@ pub struct Channel {
     // bytes of input that the server has room for, beyond those that were sent
     pub credit: u64,
     // no more input will be entered
+    // Kept: the model's channel has the same two marks, and an enum of both would be taken apart in each clause.
     pub eof: bool,
     // and that was sent
     pub said: bool,
@@ -26,7 +27,7 @@ pub struct Channel {
 impl Channel {
     // A channel whose start is sent now.
     pub fn new(number: u16) -> Channel
-        ensures { kept result (pair [] []) ≡ fresh number }
+        ensures { kept result no_bytes ≡ fresh number }
     {
         Channel {
             number,

@@ -1,14 +1,17 @@
-use Rattle.std.proofs.Common.{refl, ap}
+use Rattle.std.proofs.Common.{sym, ap, ◌∙◌}
+use Rattle.client.specs.Kepts.{kepts_of}
+use Rattle.numbers.specs.Has.{has}
 use Rattle.client.specs.View.{pending_of}
-use Rattle.message.specs.declared.to_server.ToServer.TheVariants as to_servers
-use Rattle.client.proofs.HandOut.{hands-pending}
+use Rattle.client.proofs.Moves.{view}
+use Rattle.client.proofs.HandOut.{hands-pending, hands_as}
 use Rattle.client.proofs.value.Client.next_message.Goals as goal
 
-pub returns-in-Login : goal.returns-in-Login
-returns-in-Login c = hands-pending c.args.self.now (to_servers.Login c.in-Login.user c.in-Login.proof) _ (ap pending_of c.in-Login.is) refl
+pub returns-in-Some : goal.returns-in-Some
+returns-in-Some c =
+    let s = c.args.self.now in
+    hands-pending s c.in-Some.message _ (ap pending_of (sym c.take.ensures.value ∙ c.in-Some.is)) (λ j. view (kepts_of s.channels) (has s.used) s.next s.accepted s.up (pending_of (c.take.ensures.after j)) s.turn)
 
-pub returns-in-Run : goal.returns-in-Run
-returns-in-Run c = hands-pending c.args.self.now _ _ (ap pending_of c.in-Run.is) refl
-
-pub returns-in-Credit : goal.returns-in-Credit
-returns-in-Credit c = hands-pending c.args.self.now _ _ (ap pending_of c.in-Credit.is) refl
+pub returns : goal.returns
+returns c =
+    let s = c.args.self.now in
+    hands_as _ s _ _ (λ j. view (kepts_of s.channels) (has s.used) s.next s.accepted s.up (pending_of ((c.take.ensures.after ∙ sym c.in_default.is ∙ c.take.ensures.value) j)) s.turn) c.next_of_turn.ensures

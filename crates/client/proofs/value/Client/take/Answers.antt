@@ -1,47 +1,62 @@
-use Rattle.std.proofs.Common.{◌≡◌, min, ◌++◌, length, get_or, take, drop, set, sym, refl, ap, ◌∙◌, subst}
+use Rattle.std.proofs.Common.{◌≡◌, min, ◌++◌, length, get_or, take, drop, Some, sym, ap, ◌∙◌, subst}
 use Rattle.model.specs.Client.{Take, output_credit}
-use Rattle.client_channel.specs.Kept.{Kept, fresh}
-use Rattle.held.specs.Views.{entries_of, pool_of, marks_of}
-use Rattle.client.specs.View.{kepts_at, pending_of}
-use Rattle.client.specs.Contract.{Obeys, Gets}
+use Rattle.client_channel.specs.Kept.{Kept, kept, fresh}
+use Rattle.client.specs.Kepts.{kepts_of}
+use Rattle.numbers.specs.Has.{has}
+use Rattle.client.specs.declared.refusal.Refusal.TheVariants.{NotHeld}
+use Rattle.client.specs.View.{pending_of}
+use Rattle.client.specs.Contract.{Gets}
 use Rattle.client.proofs.Moves.{view}
-use Rattle.client.proofs.Places.{place, not_there, kept-is, number_is, put-bytes}
-use Rattle.client.proofs.Calls.{took_k, take-obeys, take-obeys-down, take-gets}
-use Rattle.client.proofs.Refuse.{taking-absent}
+use Rattle.client.proofs.Places.{kept-at, set-at}
+use Rattle.client.proofs.Calls.{took_k, renamed, take-obeys, take-obeys-down, take-gets}
+use Rattle.client.proofs.Refuse.{stopped, taking-absent}
 use Rattle.client.proofs.value.Client.take.Goals as goal
 
-pub returns-in_default : goal.returns-in_default
-returns-in_default c = record { obeyed = taking-absent c.args.self.now (sym c.is_busy.ensures ∙ c.if-is_busy.false) c.args.channel (not_there c.args.self.now.table c.args.self.now.pool c.args.channel c.in_default.ensures) (length c.args.out.now); taken = refl }
+pub returns-in_err-i-clause-obeyed : goal.returns-in_err-i-clause-obeyed
+returns-in_err-i-clause-obeyed c = stopped _ _ _ _ NotHeld c.from_residual-in_err-i.ensures c.in_err-i.ensures.0 (taking-absent c.args.self.now c.in_ok-ready.ensures c.args.channel c.in_err-i.ensures.1 (length c.args.out.now))
 
-pub returns-then-self : goal.returns-then-self
-returns-then-self c =
-    let e = c.get-entry.result in
-    let h = c.get-entry.ensures e in
-    let ks = kepts_at (entries_of c.args.self.now.table) (pool_of c.args.self.now.pool) in
-    let k = get_or ks c.in-Some.i (fresh 0) in
-    let en : c.take_output-count.result ≡ min (length c.args.out.now) (length k.unseen) = c.take_output-count.ensures.count ∙ ap (λ (z : Kept). min (length c.args.out.now) (length z.unseen)) (sym (kept-is c.args.self.now.table c.args.self.now.pool c.in-Some.i c.in-Some.ensures.0 c.get-entry.result (c.get-entry.ensures c.get-entry.result))) in
-    let ep : pending_of c.credit-self.result ≡ output_credit k.number (min (length c.args.out.now) (length k.unseen)) = c.credit-self.ensures ∙ ap (λ t. output_credit t c.take_output-count.result) (ap (λ (z : Kept). z.number) (sym (kept-is c.args.self.now.table c.args.self.now.pool c.in-Some.i c.in-Some.ensures.0 c.get-entry.result (c.get-entry.ensures c.get-entry.result)))) ∙ ap (output_credit k.number) en in
-    let ek : kepts_at (entries_of c.args.self.now.table) (pool_of c.take_output-count.new.self) ≡ set ks c.in-Some.i (took_k (min (length c.args.out.now) (length k.unseen)) k) =
-    ap (kepts_at (entries_of c.args.self.now.table)) c.take_output-count.ensures.bytes ∙ put-bytes c.args.self.now.table c.args.self.now.pool c.in-Some.i c.in-Some.ensures.0 e h _ ∙ ap (λ z. set ks c.in-Some.i (took_k c.take_output-count.result z)) (sym (kept-is c.args.self.now.table c.args.self.now.pool c.in-Some.i c.in-Some.ensures.0 c.get-entry.result (c.get-entry.ensures c.get-entry.result))) ∙ ap (λ z. set ks c.in-Some.i (took_k z k)) en in
-    let eo : c.take_output-count.new.out ≡ take c.take_output-count.result k.unseen ++ drop c.take_output-count.result c.args.out.now = c.take_output-count.ensures.taken ∙ ap (λ (z : Kept). take c.take_output-count.result z.unseen ++ drop c.take_output-count.result c.args.out.now) (sym (kept-is c.args.self.now.table c.args.self.now.pool c.in-Some.i c.in-Some.ensures.0 c.get-entry.result (c.get-entry.ensures c.get-entry.result))) in
-    record {
-      obeyed = subst (λ t. Obeys (Take t (length c.args.out.now)) c.args.self.now (record { table = c.args.self.now.table; pool = c.take_output-count.new.self; used = c.args.self.now.used; next = c.args.self.now.next; accepted = c.args.self.now.accepted; up = c.args.self.now.up; pending = c.credit-self.result; turn = c.in-Some.i })) (number_is c.args.self.now.table c.args.self.now.pool c.in-Some.i c.in-Some.ensures.0 c.get-entry.result (c.get-entry.ensures c.get-entry.result) c.args.channel c.in-Some.ensures.1)
-          (take-obeys c.args.self.now (sym c.is_busy.ensures ∙ c.if-is_busy.false) c.in-Some.i (place c.args.self.now.table c.args.self.now.pool c.in-Some.i c.in-Some.ensures.0) (length c.args.out.now) _ c.if-self.true (λ j. view (ek j) (marks_of c.args.self.now.used) c.args.self.now.next c.args.self.now.accepted c.args.self.now.up (ep j) c.in-Some.i));
-      taken = subst (λ t. Gets t c.args.self.now c.args.out.now c.take_output-count.result c.take_output-count.new.out) (number_is c.args.self.now.table c.args.self.now.pool c.in-Some.i c.in-Some.ensures.0 c.get-entry.result (c.get-entry.ensures c.get-entry.result) c.args.channel c.in-Some.ensures.1) (take-gets c.args.self.now (sym c.is_busy.ensures ∙ c.if-is_busy.false) c.in-Some.i (place c.args.self.now.table c.args.self.now.pool c.in-Some.i c.in-Some.ensures.0) c.args.out.now c.take_output-count.new.out c.take_output-count.result en eo);
-    }
+pub returns-then-self-clause-obeyed : goal.returns-then-self-clause-obeyed
+returns-then-self-clause-obeyed c =
+    let s = c.args.self.now in
+    let i = c.in_ok-i.i in
+    let at = c.in_ok-i.ensures in
+    let r = c.index_mut-held.result.now in
+    let ki = kept-at s.channels i r at.within c.index_mut-held.ensures.value in
+    let k = get_or (kepts_of s.channels) i (fresh 0) in
+    let n = min (length c.args.out.now) (length k.unseen) in
+    let en : c.take-count.result ≡ n = c.take-count.ensures.count ∙ ap (λ (z : Kept). min (length c.args.out.now) (length z.unseen)) (sym ki) in
+    let ep : pending_of c.credit-self.result ≡ output_credit k.number n = c.credit-self.ensures ∙ ap (λ (z : Kept). output_credit z.number c.take-count.result) (sym ki) ∙ ap (output_credit k.number) en in
+    let ek = set-at s.channels i r (record { channel = r.channel; buffers = record { input = r.buffers.input; output = c.take-count.new.self } }) (took_k n) at.within c.index_mut-held.ensures.value (λ j. kept r.channel (record { input = r.buffers.input; output = (c.take-count.ensures.left ∙ ap (λ m. drop m r.buffers.output) en) j })) in
+    renamed (λ t. Take t (length c.args.out.now)) _ _ _ _ at.number (take-obeys s c.in_ok-ready.ensures i at.within (length c.args.out.now) _ c.if-self.true (λ j. view (ek j) (has s.used) s.next s.accepted s.up (ep j) (Some i)))
 
-pub returns-else-self : goal.returns-else-self
-returns-else-self c =
-    let e = c.get-entry.result in
-    let h = c.get-entry.ensures e in
-    let ks = kepts_at (entries_of c.args.self.now.table) (pool_of c.args.self.now.pool) in
-    let k = get_or ks c.in-Some.i (fresh 0) in
-    let en : c.take_output-count.result ≡ min (length c.args.out.now) (length k.unseen) = c.take_output-count.ensures.count ∙ ap (λ (z : Kept). min (length c.args.out.now) (length z.unseen)) (sym (kept-is c.args.self.now.table c.args.self.now.pool c.in-Some.i c.in-Some.ensures.0 c.get-entry.result (c.get-entry.ensures c.get-entry.result))) in
-    let ek : kepts_at (entries_of c.args.self.now.table) (pool_of c.take_output-count.new.self) ≡ set ks c.in-Some.i (took_k (min (length c.args.out.now) (length k.unseen)) k) =
-    ap (kepts_at (entries_of c.args.self.now.table)) c.take_output-count.ensures.bytes ∙ put-bytes c.args.self.now.table c.args.self.now.pool c.in-Some.i c.in-Some.ensures.0 e h _ ∙ ap (λ z. set ks c.in-Some.i (took_k c.take_output-count.result z)) (sym (kept-is c.args.self.now.table c.args.self.now.pool c.in-Some.i c.in-Some.ensures.0 c.get-entry.result (c.get-entry.ensures c.get-entry.result))) ∙ ap (λ z. set ks c.in-Some.i (took_k z k)) en in
-    let eo : c.take_output-count.new.out ≡ take c.take_output-count.result k.unseen ++ drop c.take_output-count.result c.args.out.now = c.take_output-count.ensures.taken ∙ ap (λ (z : Kept). take c.take_output-count.result z.unseen ++ drop c.take_output-count.result c.args.out.now) (sym (kept-is c.args.self.now.table c.args.self.now.pool c.in-Some.i c.in-Some.ensures.0 c.get-entry.result (c.get-entry.ensures c.get-entry.result))) in
-    record {
-      obeyed = subst (λ t. Obeys (Take t (length c.args.out.now)) c.args.self.now (record { table = c.args.self.now.table; pool = c.take_output-count.new.self; used = c.args.self.now.used; next = c.args.self.now.next; accepted = c.args.self.now.accepted; up = c.args.self.now.up; pending = c.args.self.now.pending; turn = c.args.self.now.turn })) (number_is c.args.self.now.table c.args.self.now.pool c.in-Some.i c.in-Some.ensures.0 c.get-entry.result (c.get-entry.ensures c.get-entry.result) c.args.channel c.in-Some.ensures.1)
-          (take-obeys-down c.args.self.now (sym c.is_busy.ensures ∙ c.if-is_busy.false) c.in-Some.i (place c.args.self.now.table c.args.self.now.pool c.in-Some.i c.in-Some.ensures.0) (length c.args.out.now) _ c.if-self.false (λ j. view (ek j) (marks_of c.args.self.now.used) c.args.self.now.next c.args.self.now.accepted c.args.self.now.up (pending_of c.args.self.now.pending) c.args.self.now.turn));
-      taken = subst (λ t. Gets t c.args.self.now c.args.out.now c.take_output-count.result c.take_output-count.new.out) (number_is c.args.self.now.table c.args.self.now.pool c.in-Some.i c.in-Some.ensures.0 c.get-entry.result (c.get-entry.ensures c.get-entry.result) c.args.channel c.in-Some.ensures.1) (take-gets c.args.self.now (sym c.is_busy.ensures ∙ c.if-is_busy.false) c.in-Some.i (place c.args.self.now.table c.args.self.now.pool c.in-Some.i c.in-Some.ensures.0) c.args.out.now c.take_output-count.new.out c.take_output-count.result en eo);
-    }
+pub returns-else-self-clause-obeyed : goal.returns-else-self-clause-obeyed
+returns-else-self-clause-obeyed c =
+    let s = c.args.self.now in
+    let i = c.in_ok-i.i in
+    let at = c.in_ok-i.ensures in
+    let r = c.index_mut-held.result.now in
+    let ki = kept-at s.channels i r at.within c.index_mut-held.ensures.value in
+    let n = min (length c.args.out.now) (length (get_or (kepts_of s.channels) i (fresh 0)).unseen) in
+    let en : c.take-count.result ≡ n = c.take-count.ensures.count ∙ ap (λ (z : Kept). min (length c.args.out.now) (length z.unseen)) (sym ki) in
+    let ek = set-at s.channels i r (record { channel = r.channel; buffers = record { input = r.buffers.input; output = c.take-count.new.self } }) (took_k n) at.within c.index_mut-held.ensures.value (λ j. kept r.channel (record { input = r.buffers.input; output = (c.take-count.ensures.left ∙ ap (λ m. drop m r.buffers.output) en) j })) in
+    renamed (λ t. Take t (length c.args.out.now)) _ _ _ _ at.number (take-obeys-down s c.in_ok-ready.ensures i at.within (length c.args.out.now) _ c.if-self.false (λ j. view (ek j) (has s.used) s.next s.accepted s.up (pending_of s.pending) s.turn))
+
+pub returns-then-self-clause-taken : goal.returns-then-self-clause-taken
+returns-then-self-clause-taken c =
+    let s = c.args.self.now in
+    let at = c.in_ok-i.ensures in
+    let ki = kept-at s.channels c.in_ok-i.i c.index_mut-held.result.now at.within c.index_mut-held.ensures.value in
+    subst (λ t. Gets t s c.args.out.now c.take-count.result c.take-count.new.out) at.number
+    (take-gets s c.in_ok-ready.ensures c.in_ok-i.i at.within c.args.out.now c.take-count.new.out c.take-count.result
+    (c.take-count.ensures.count ∙ ap (λ (z : Kept). min (length c.args.out.now) (length z.unseen)) (sym ki))
+    (c.take-count.ensures.taken ∙ ap (λ (z : Kept). take c.take-count.result z.unseen ++ drop c.take-count.result c.args.out.now) (sym ki)))
+
+pub returns-else-self-clause-taken : goal.returns-else-self-clause-taken
+returns-else-self-clause-taken c =
+    let s = c.args.self.now in
+    let at = c.in_ok-i.ensures in
+    let ki = kept-at s.channels c.in_ok-i.i c.index_mut-held.result.now at.within c.index_mut-held.ensures.value in
+    subst (λ t. Gets t s c.args.out.now c.take-count.result c.take-count.new.out) at.number
+    (take-gets s c.in_ok-ready.ensures c.in_ok-i.i at.within c.args.out.now c.take-count.new.out c.take-count.result
+    (c.take-count.ensures.count ∙ ap (λ (z : Kept). min (length c.args.out.now) (length z.unseen)) (sym ki))
+    (c.take-count.ensures.taken ∙ ap (λ (z : Kept). take c.take-count.result z.unseen ++ drop c.take-count.result c.args.out.now) (sym ki)))
