@@ -1,18 +1,16 @@
 -- A server that owes nothing. Assumes nothing.
 use Rattle.std.specs.Prelude.{ℕ, suc, Bool, true, false, not, ◌&&◌, ◌||◌, Some, None, Option, nat_lt}
-use Rattle.model.specs.Keyed.{every}
+use Rattle.std.specs.List.{list_all}
 use Rattle.server_channel.specs.Kept.{quiet}
-use Rattle.desk.specs.View.{View, Told, Nothing, Logged, Refused, Started, Freed}
+use Rattle.desk.specs.declared.Notice.{Notice}
+use Rattle.desk.specs.View.{View}
 
-abbrev pub is_silent : Told → Bool
-is_silent Nothing = true
-is_silent (Logged b) = false
-is_silent (Refused t) = false
-is_silent (Started t) = false
-is_silent (Freed t n) = false
+abbrev pub is_silent : Option Notice → Bool
+is_silent None = true
+is_silent (Some n) = false
 
 abbrev pub silent : {S : Type 0} → View S → Bool
-silent v = is_silent v.told && (not v.up || every quiet v.channels)
+silent v = is_silent v.told && (not v.up || list_all quiet v.channels)
 
 -- a login that is one too many
 abbrev pub login_fails_in : {S : Type 0} → Bool → Option ℕ → View S → Bool

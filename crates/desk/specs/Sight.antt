@@ -1,43 +1,31 @@
 -- The view of a desk, and what its calls do to it. Assumes nothing.
-use Rattle.std.specs.Prelude.{◌≡◌, ℕ, ◌<◌, true, false, List, [], ◌∷◌, map, length, take, Some, None, Ok, Err, vec_items, Option, Result, ◌≢◌, slice_index_or, slice_set}
+use Rattle.std.specs.Prelude.{◌≡◌, ℕ, ◌<◌, true, false, List, [], ◌∷◌, length, Some, None, Ok, Err, vec_items, Option, Result, ◌≢◌, slice_index_or, slice_set}
+use Rattle.std.specs.List.{All, AllPass, HoldsAt}
 use Rattle.model.specs.Messages.{Request, Fault, Programs}
 use Rattle.message.specs.declared.fault.Fault as code
 use Rattle.message.specs.Views.{to_client, fault}
 use Rattle.message.specs.declared.to_client.ToClient.{ToClient}
 use Rattle.server_channel.specs.declared.Channel.{Channel}
-use Rattle.server_channel.specs.Kept.{Kept, kept_of, quiet, heard}
-use Rattle.model.specs.Keyed.{every}
+use Rattle.server_channel.specs.Kept.{quiet, heard}
 use Rattle.numbers.specs.Has.{has}
 use Rattle.desk.specs.declared.Desk.{Desk}
-use Rattle.desk.specs.declared.Notice.{Notice}
-use Rattle.desk.specs.declared.Notice.TheVariants as notice
 use Rattle.server_channel.specs.Turns.{turn_by}
 use Rattle.desk.specs.Events.{took_at, cut_down, turned_at, holding}
-use Rattle.desk.specs.View.{View, view, Told, Nothing, Logged, Refused, Started, Freed, number_in, owed_by, flushed}
-
-abbrev pub told_by : Notice → Told
-told_by notice.Nothing = Nothing
-told_by (notice.Logged b) = Logged b
-told_by (notice.Refused t) = Refused t
-told_by (notice.Started t) = Started t
-told_by (notice.Freed t n) = Freed t n
+use Rattle.desk.specs.View.{View, view, number_in, owed_by, flushed}
 
 module _ {S : Type 0} where
-  unfoldable pub kept_in : List (Channel S) → List (Kept S)
-  kept_in cs = map kept_of cs
-
   abbrev pub view_of : Desk S → View S
-  view_of d = view (kept_in (take d.held (vec_items d.slots))) d.next (has d.numbers) d.user d.tries d.up (told_by d.notice)
+  view_of d = view d.channels.held.items d.next (has d.numbers) d.user d.tries d.up d.notice
 
   -- where a channel is held
-  abbrev pub Finds : ℕ → List (Kept S) → Option ℕ → Type 0
-  Finds t ks None = (j : ℕ) (d : Kept S) → j < length ks → number_in (slice_index_or ks j d) ≢ t
-  Finds t ks (Some i) = (i < length ks) × ((d : Kept S) → number_in (slice_index_or ks i d) ≡ t)
+  abbrev pub Finds : ℕ → List (Channel S) → Option ℕ → Type 0
+  Finds t ks None = All (λ k. number_in k ≢ t) ks
+  Finds t ks (Some i) = (i < length ks) × HoldsAt (λ k. number_in k ≡ t) ks i
 
   -- the first channel of which something goes
-  abbrev pub FirstDue : List (Kept S) → Option ℕ → Type 0
-  FirstDue ks None = every quiet ks ≡ true
-  FirstDue ks (Some i) = (i < length ks) × ((j : ℕ) (d : Kept S) → j < i → quiet (slice_index_or ks j d) ≡ true) × ((d : Kept S) → quiet (slice_index_or ks i d) ≡ false)
+  abbrev pub FirstDue : List (Channel S) → Option ℕ → Type 0
+  FirstDue ks None = AllPass quiet ks
+  FirstDue ks (Some i) = (i < length ks) × ((j : ℕ) (d : Channel S) → j < i → quiet (slice_index_or ks j d) ≡ true) × HoldsAt (λ k. quiet k ≡ false) ks i
 
   -- the first of what is owed is handed out
   pub record HandsNone (v w : View S) : Type 0 where
@@ -60,21 +48,21 @@ module _ {S : Type 0} where
     pub user : v.user ≡ None
     pub tries : v.tries ≡ 0
     pub up : v.up ≡ true
-    pub told : v.told ≡ Nothing
+    pub told : v.told ≡ None
 
   -- a message for the channel at a place: it is taken in, or it is a fault
   pub record TakesAt (q : Request) (i : ℕ) (v w : View S) : Type 0 where
-    pub left : Kept S
-    pub hears : (d : Kept S) → heard q (slice_index_or v.channels i d) ≡ Ok left
+    pub left : Channel S
+    pub hears : (d : Channel S) → heard q (slice_index_or v.channels i d) ≡ Ok left
     pub after : w ≡ took_at q i left v
 
   pub record FaultsAt (q : Request) (i : ℕ) (v : View S) (f : Fault) (w : View S) : Type 0 where
-    pub hears : (d : Kept S) → heard q (slice_index_or v.channels i d) ≡ Err f
+    pub hears : (d : Channel S) → heard q (slice_index_or v.channels i d) ≡ Err f
     pub after : w ≡ cut_down v
 
   pub record PutAt (q : Request) (i : ℕ) (v w : View S) : Type 0 where
-    pub left : Kept S
-    pub hears : (d : Kept S) → heard q (slice_index_or v.channels i d) ≡ Ok left
+    pub left : Channel S
+    pub hears : (d : Channel S) → heard q (slice_index_or v.channels i d) ≡ Ok left
     pub after : w ≡ holding (slice_set v.channels i left) v
 
   abbrev pub PutsAt : Request → ℕ → View S → Result Unit code.Fault → View S → Type 0
@@ -87,5 +75,5 @@ module _ {S : Type 0} where
 
 -- a turn of the program of the channel at a place
 pub record TurnsAt {S E : Type 0} (p : Programs S E) (i : ℕ) (e : E) (v : View S) (e' : E) (w : View S) : Type 0 where
-  pub env : (d : Kept S) → e' ≡ (turn_by p v.up e (slice_index_or v.channels i d)).env
-  pub after : (d : Kept S) → w ≡ turned_at (number_in (slice_index_or v.channels i d)) i (turn_by p v.up e (slice_index_or v.channels i d)).kept (turn_by p v.up e (slice_index_or v.channels i d)).freed v
+  pub env : (d : Channel S) → e' ≡ (turn_by p v.up e (slice_index_or v.channels i d)).env
+  pub after : (d : Channel S) → w ≡ turned_at (number_in (slice_index_or v.channels i d)) i (turn_by p v.up e (slice_index_or v.channels i d)).kept (turn_by p v.up e (slice_index_or v.channels i d)).freed v

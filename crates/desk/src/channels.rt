@@ -1,34 +1,33 @@
 // What is done to one channel of a desk.
-ghost use Rattle.std.specs.Prelude.{◌≡◌, suc, ◌<◌, ◌≤◌, ◌&&◌, ◌++◌, take, drop, nat_le, nat_lt};
+ghost use Rattle.std.specs.Prelude.{◌≡◌, suc, ◌<◌, ◌≤◌, ◌&&◌, ◌++◌, length, take, drop, nat_lt};
 ghost use Rattle.message.specs.Views.{request};
-ghost use Rattle.programs.specs.Actions.{programs_by};
-ghost use Rattle.desk.specs.Events.{start_at, refuse_at, holding, freed};
-ghost use Rattle.desk.specs.Sight.{view_of, HearsAt, PutsAt, TurnsAt, told_by};
+ghost use Rattle.desk.specs.Events.{start_at, refuse_at, holding, is_fresh};
+ghost use Rattle.desk.specs.Sight.{view_of, HearsAt, PutsAt, TurnsAt};
 
-use crate::{Desk, MOST, Notice};
+use crate::{Desk, Notice};
 use message::fault::Fault;
 use message::to_server::Request;
 use programs::programs::Programs;
+use server_channel::Channel;
 
 impl<S: Drop> Desk<S> {
     // Whether a start with that number may run, if somebody may run it.
     pub fn has_room(&self, number: u16) -> bool
-        ensures { result ≡ (nat_le self.now.next number && nat_lt self.now.held 16) }
+        ensures { result ≡ (is_fresh number (view_of self.now) && nat_lt (length (view_of self.now).channels) 16) }
     {
-        self.next <= u32::from(number) && self.held < MOST
+        self.next <= u32::from(number) && !self.channels.is_full()
     }
 
     // A channel starts, with its program in its first state.
     pub fn start(&mut self, number: u16, state: S)
-        requires { (self.old.next ≤ number) × (self.old.held < 16) }
+        requires { (self.old.next ≤ number) × (length (view_of self.old).channels < 16) }
         ensures { view_of self.new ≡ start_at state number (view_of self.old) }
     {
-        let i = self.held;
-        self.slots[i].start(number, state);
-        self.held += 1;
+        self.channels
+            .start(|memory| Channel::start(memory, number, state));
         self.numbers.insert(number);
         self.next = u32::from(number) + 1;
-        self.notice = Notice::Started(number);
+        self.notice = Some(Notice::Started(number));
     }
 
     // A start is refused; its number is used, if it was not.
@@ -39,64 +38,51 @@ impl<S: Drop> Desk<S> {
             self.numbers.insert(number);
             self.next = u32::from(number) + 1;
         }
-        self.notice = Notice::Refused(number);
+        self.notice = Some(Notice::Refused(number));
     }
 
-    // The channel is done with; its slot goes behind all others.
+    // The channel is done with, and its memory is spare.
     fn forget(&mut self, i: usize)
-        requires { i < self.old.held }
+        requires { i < length (view_of self.old).channels }
         ensures { view_of self.new ≡ holding (take i (view_of self.old).channels ++ drop (suc i) (view_of self.old).channels) (view_of self.old) }
     {
-        let slot = self.slots.remove(i);
-        self.slots.push_reserved(slot);
-        self.held -= 1;
-        self.notice = Notice::Nothing;
+        self.channels.forget(i);
+        self.notice = None;
     }
 
     // A message for the channel, which it takes in; or a fault, and the connection is cut.
     fn take_in(&mut self, i: usize, asked: Request) -> Result<(), Fault>
-        requires { i < self.old.held }
+        requires { i < length (view_of self.old).channels }
         ensures { PutsAt (request asked) i (view_of self.old) result (view_of self.new) }
     {
-        if let Err(fault) = self.slots[i].hear(asked) {
-            self.cut();
-            return Err(fault);
+        let heard = self.channels.held[i].hear(asked);
+        if heard.is_err() {
+            self.up = false;
         }
-        self.notice = Notice::Nothing;
-        Ok(())
+        self.notice = None;
+        heard
     }
 
     // The same; a channel that the client is done with is forgotten.
     pub fn hear(&mut self, i: usize, asked: Request) -> Result<(), Fault>
-        requires { i < self.old.held }
+        requires { i < length (view_of self.old).channels }
         ensures { HearsAt (request asked) i (view_of self.old) result (view_of self.new) }
     {
-        let Request::Close = asked else {
-            return self.take_in(i, asked);
-        };
         self.take_in(i, asked)?;
-        self.forget(i);
+        if let Request::Close = asked {
+            self.forget(i);
+        }
         Ok(())
     }
-}
 
-// A turn of a channel's program.
-pub fn turn<P: Programs>(programs: &mut P, desk: &mut Desk<P::State>, i: usize)
-    requires { i < desk.old.held }
-    ensures { TurnsAt (programs_by P.Programs.first P.Programs.does P.Programs.next P.Programs.after P.Programs.release) i programs.old (view_of desk.old) programs.new (view_of desk.new) }
-{
-    let number = desk.slots[i].number();
-    let freed = server_channel::turn::turn(programs, &mut desk.slots[i], desk.up);
-    desk.notice = freed_notice(number, freed);
-}
-
-fn freed_notice(number: u16, count: usize) -> Notice
-    requires { count ≤ 1024 }
-    ensures { told_by result ≡ freed number count }
-{
-    if count == 0 {
-        Notice::Nothing
-    } else {
-        Notice::Freed(number, count as u32)
+    // A turn of a channel's program.
+    pub fn turn<P: Programs<State = S>>(&mut self, programs: &mut P, i: usize)
+        requires { i < length (view_of self.old).channels }
+        ensures { TurnsAt P.meaning i programs.old (view_of self.old) programs.new (view_of self.new) }
+    {
+        let channel = &mut self.channels.held[i];
+        let number = channel.number();
+        let freed = channel.turn(programs, self.up);
+        self.notice = (freed > 0).then_some(Notice::Freed(number, freed as u32));
     }
 }

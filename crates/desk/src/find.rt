@@ -1,69 +1,49 @@
-// Where a channel is held.
-ghost use Rattle.std.specs.Prelude.{◌≡◌};
-ghost use Rattle.model.specs.Keyed.{every};
+// Where a channel is held, and what is asked of a desk.
+ghost use Rattle.std.specs.Prelude.{◌≡◌, length};
+ghost use Rattle.std.specs.List.{list_all};
 ghost use Rattle.numbers.specs.Has.{has};
 ghost use Rattle.desk.specs.Quiet.{silent};
+ghost use Rattle.server_channel.specs.Kept.{quiet};
 ghost use Rattle.desk.specs.View.{has_ended};
 ghost use Rattle.desk.specs.Sight.{view_of, Finds, FirstDue};
 
-use crate::{Desk, Notice};
+use crate::Desk;
 
 impl<S: Drop> Desk<S> {
+    // Kept: a place, and no `&mut` to the channel, whose clause would have to say what it lends.
     pub fn find(&self, number: u16) -> Option<usize>
         ensures { Finds number (view_of self.now).channels result }
     {
-        for i in 0..self.held {
-            if self.slots[i].number() == number {
-                return Some(i);
-            }
-        }
-        None
-    }
-}
-
-impl<S: Drop> Desk<S> {
-    // Whether nothing is owed.
-    pub fn is_silent(&self) -> bool
-        ensures { result ≡ silent (view_of self.now) }
-    {
-        let Notice::Nothing = self.notice else {
-            return false;
-        };
-        if !self.up {
-            return true;
-        }
-        match self.first_due() {
-            None => true,
-            Some(_) => false,
-        }
+        self.channels.held.iter().position(|c| c.number() == number)
     }
 
     // The first channel of which something goes.
     pub fn first_due(&self) -> Option<usize>
         ensures { FirstDue (view_of self.now).channels result }
     {
-        for i in 0..self.held {
-            if !self.slots[i].is_quiet() {
-                return Some(i);
-            }
-        }
-        None
+        self.channels.held.iter().position(|c| !c.is_quiet())
     }
 
     // Whether no program runs any more.
     pub fn all_ended(&self) -> bool
-        ensures { result ≡ every has_ended (view_of self.now).channels }
+        ensures { result ≡ list_all has_ended (view_of self.now).channels }
     {
-        for i in 0..self.held {
-            if !self.slots[i].has_ended() {
-                return false;
-            }
-        }
-        true
+        self.channels.held.iter().all(|c| c.has_ended())
     }
-}
 
-impl<S: Drop> Desk<S> {
+    fn all_quiet(&self) -> bool
+        ensures { result ≡ list_all quiet (view_of self.now).channels }
+    {
+        self.channels.held.iter().all(|c| c.is_quiet())
+    }
+
+    // Whether nothing is owed.
+    pub fn is_silent(&self) -> bool
+        ensures { result ≡ silent (view_of self.now) }
+    {
+        self.notice.is_none() && (!self.up || self.all_quiet())
+    }
+
     pub fn is_up(&self) -> bool
         ensures { result ≡ self.now.up }
     {
@@ -79,9 +59,9 @@ impl<S: Drop> Desk<S> {
 
     // How many channels are held.
     pub fn held(&self) -> usize
-        ensures { result ≡ self.now.held }
+        ensures { result ≡ length (view_of self.now).channels }
     {
-        self.held
+        self.channels.held.len()
     }
 
     pub fn is_used(&self, number: u16) -> bool

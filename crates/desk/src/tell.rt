@@ -1,7 +1,6 @@
 // What a desk owes, message by message.
-ghost use Rattle.std.specs.Prelude.{◌≡◌};
+ghost use Rattle.std.specs.Prelude.{◌≡◌, None};
 ghost use Rattle.desk.specs.Sight.{view_of, Hands};
-ghost use Rattle.desk.specs.View.{Nothing};
 
 use crate::{Desk, Notice};
 use message::to_client::{Reply, ToClient};
@@ -12,48 +11,41 @@ impl<S: Drop> Desk<S> {
     pub fn next_message(&mut self) -> Option<ToClient>
         ensures { Hands (view_of self.old) result (view_of self.new) }
     {
-        match self.notice {
-            Notice::Nothing => self.next_reply(),
-            Notice::Logged(accepted) => {
-                self.notice = Notice::Nothing;
-                Some(ToClient::Accepted(accepted))
-            }
-            Notice::Refused(channel) => {
-                self.notice = Notice::Nothing;
-                Some(ToClient::Of {
-                    channel,
-                    reply: Reply::Runs(false),
-                })
-            }
+        let Some(notice) = self.notice.take() else {
+            return self.next_reply();
+        };
+        Some(match notice {
+            Notice::Logged(accepted) => ToClient::Accepted(accepted),
+            Notice::Refused(channel) => ToClient::Of {
+                channel,
+                reply: Reply::Runs(false),
+            },
             Notice::Started(channel) => {
-                self.notice = Notice::Freed(channel, WINDOW as u32);
-                Some(ToClient::Of {
+                self.notice = Some(Notice::Freed(channel, WINDOW as u32));
+                ToClient::Of {
                     channel,
                     reply: Reply::Runs(true),
-                })
+                }
             }
-            Notice::Freed(channel, more) => {
-                self.notice = Notice::Nothing;
-                Some(ToClient::Of {
-                    channel,
-                    reply: Reply::InputCredit(more),
-                })
-            }
-        }
+            Notice::Freed(channel, more) => ToClient::Of {
+                channel,
+                reply: Reply::InputCredit(more),
+            },
+        })
     }
 
     fn next_reply(&mut self) -> Option<ToClient>
-        requires { (view_of self.old).told ≡ Nothing }
+        requires { self.old.notice ≡ None }
         ensures { Hands (view_of self.old) result (view_of self.new) }
     {
         if !self.up {
             return None;
         }
-        let Some(i) = self.first_due() else {
-            return None;
-        };
-        let channel = self.slots[i].number();
-        let Some(reply) = self.slots[i].next() else {
+        let i = self.first_due()?;
+        let due = &mut self.channels.held[i];
+        let channel = due.number();
+        // Kept: what is first due has a next message, which a `?` would not say.
+        let Some(reply) = due.next() else {
             return unreachable();
         };
         Some(ToClient::Of { channel, reply })

@@ -1,27 +1,22 @@
 -- When a new connection may come up.
-use Rattle.std.proofs.Common.{◌≡◌, ℕ, ◌<◌, Bool, true, false, cond, not, ◌&&◌, List, [], ◌++◌, map, length, sym, refl, ap, ◌∙◌, subst, arith}
-use Rattle.std.proofs.lemmas.Bool.{and_left, and_right, le-leb}
+use Rattle.std.proofs.Common.{◌≡◌, ℕ, Bool, true, false, cond, not, ◌&&◌, eqb, List, [], ◌++◌, map, length, sym, refl, ap, ◌∙◌, subst, arith}
+use Rattle.std.proofs.lemmas.Bool.{and_left, le-leb, ne_eqb}
 use Rattle.model.specs.Keyed.{every, is_in, above, gather}
 use Rattle.model.specs.Server.{Server, ServerChannel, is_empty, server}
-use Rattle.server_channel.specs.Kept.{Kept, settled}
+use Rattle.server_channel.specs.declared.Channel.{Channel}
+use Rattle.server_channel.specs.Kept.{settled}
 use Rattle.desk.specs.View as seen
-use Rattle.desk.specs.View.{View, Nothing, owed_by, flushed, due_of}
+use Rattle.desk.specs.View.{View, owed_by, flushed, due_of}
 use Rattle.desk.specs.Sight.{Fresh}
 use Rattle.server.specs.Stands.{Stand, none, past, held, Used, StandsFor}
 use Rattle.server.specs.Calls.{Begins}
 
 module _ {S : Type 0} {up : Bool} {Good : ℕ → Type 0} where
-  pub nothing-held : {lo : ℕ} {xs : List (ServerChannel S)} (ks : List (Kept S)) → length ks ≡ 0 → Stand up Good lo ks xs → every (λ x. x.forgotten) xs ≡ true
+  all-forgotten : {lo : ℕ} {xs : List (ServerChannel S)} (ks : List (Channel S)) → Stand up Good lo ks xs → every (λ x. x.forgotten) xs ≡ eqb (length ks) 0
   unfolding every
-  nothing-held ks l none = refl
-  nothing-held ks l (past h a g st) = λ i. h i && nothing-held ks l st i
-  nothing-held ks l (held p e a g st) = absurd (omega arith)
-
-  pub something-held : {lo : ℕ} {xs : List (ServerChannel S)} (ks : List (Kept S)) → 0 < length ks → Stand up Good lo ks xs → every (λ x. x.forgotten) xs ≡ false
-  unfolding every
-  something-held ks l none = absurd (omega arith)
-  something-held ks l (past {x = x} {xs = xs} h a g st) = and_right x.forgotten (every (λ x. x.forgotten) xs) (something-held ks l st)
-  something-held ks l (held {x = x} {xs = xs} p e a g st) = and_left x.forgotten (every (λ x. x.forgotten) xs) (ap (λ z. z.forgotten) e)
+  all-forgotten ks none = refl
+  all-forgotten ks (past h a g st) = λ i. h i && all-forgotten ks st i
+  all-forgotten ks (held {x = x} {xs = xs} p e a g st) = and_left x.forgotten (every (λ y. y.forgotten) xs) (ap (λ z. z.forgotten) e) ∙ sym (ne_eqb (length ks) 0 (λ q. omega arith))
 
 none_in : (t : ℕ) → is_in t [] ≡ false
 unfolding is_in
@@ -36,22 +31,13 @@ unfolding gather
 none-gathered S = refl
 
 module _ {S E : Type 0} (v : View S) (e : E) where
-  down-channels : (b : Bool) (f : List (Kept S) → List (Kept S)) → b ≡ false → cond b (f v.channels) v.channels ≡ v.channels
-  down-channels true f h = absurd (let y : ◌≡◌ {A = ℕ} 0 1 = cc in omega arith)
-  down-channels false f h = refl
-
-  pub may-connect : v.up ≡ false → length v.channels ≡ 0 → (s : Server S E) → StandsFor v e s → (not s.up && is_empty s) ≡ true
-  may-connect u l s x =
-      let k = down-channels v.up (map settled) u in
-      subst (λ z. (not z.up && is_empty z) ≡ true) (sym x.same) (λ i. not (u i) && nothing-held (flushed v).channels (ap length k ∙ l) x.fits.stand i)
-
-  pub up-busy : v.up ≡ true → (s : Server S E) → StandsFor v e s → (not s.up && is_empty s) ≡ false
-  up-busy u s x = subst (λ z. (not z.up && is_empty z) ≡ false) (sym x.same) (ap (λ b. not b && every (λ y. y.forgotten) x.channels) u)
-
-  pub held-busy : v.up ≡ false → 0 < length v.channels → (s : Server S E) → StandsFor v e s → (not s.up && is_empty s) ≡ false
-  held-busy u l s x =
-      let k = ap length (down-channels v.up (map settled) u) in
-      subst (λ z. (not z.up && is_empty z) ≡ false) (sym x.same) (and_right (not v.up) (every (λ y. y.forgotten) x.channels) (something-held (flushed v).channels (omega arith) x.fits.stand))
+  -- what a view tells of a model's server
+  pub over-same : (s : Server S E) → StandsFor v e s → (not s.up && is_empty s) ≡ (not v.up && eqb (length v.channels) 0)
+  over-same s x = subst (λ z. (not z.up && is_empty z) ≡ (not v.up && eqb (length v.channels) 0)) (sym x.same) (go v.up v.channels x.fits.stand)
+    where
+      go : (up : Bool) (ks : List (Channel S)) → Stand up (Used v.next x.used) 0 (cond up (map settled ks) ks) x.channels → (not up && every (λ y. y.forgotten) x.channels) ≡ (not up && eqb (length ks) 0)
+      go true ks st = refl
+      go false ks st = all-forgotten ks st
 
   -- a server of which nothing was used
   pub begins : Fresh v → Begins v e
@@ -68,10 +54,10 @@ module _ {S E : Type 0} (v : View S) (e : E) where
     owes = λ i. seen.tells (f.told i) ++ owing v.up v.channels f.channels i;
   }
     where
-      empty : (b : Bool) (ks : List (Kept S)) → ks ≡ [] → cond b (map settled ks) ks ≡ []
+      empty : (b : Bool) (ks : List (Channel S)) → ks ≡ [] → cond b (map settled ks) ks ≡ []
       empty true ks q = ap (map settled) q
       empty false ks q = q
 
-      owing : (b : Bool) (ks : List (Kept S)) → ks ≡ [] → cond b (gather due_of ks) [] ≡ []
+      owing : (b : Bool) (ks : List (Channel S)) → ks ≡ [] → cond b (gather due_of ks) [] ≡ []
       owing true ks q = ap (gather due_of) q ∙ none-gathered S
       owing false ks q = refl

@@ -8,7 +8,8 @@ use Rattle.model.specs.Server.{ServerChannel, portion, doing, drained, turn_in}
 use Rattle.server_channel.specs.declared.Counts.{Counts}
 use Rattle.server_channel.specs.declared.Life.{Life}
 use Rattle.server_channel.specs.declared.Life.TheVariants.{Running, Ended}
-use Rattle.server_channel.specs.Kept.{Kept, kept, goes}
+use Rattle.server_channel.specs.declared.Channel.{Channel}
+use Rattle.server_channel.specs.Kept.{kept, goes}
 use Rattle.server_channel.specs.Turns as view
 use Rattle.server_channel.specs.Turns.{Turned}
 use Rattle.desk.specs.View.{number_in}
@@ -42,7 +43,7 @@ abbrev ended-past : {S : Type 0} → S → Past S → Past S
 ended-past s p = record { command = p.command; user = p.user; state = s; went = p.went; gone = p.gone; sent = p.sent; may = p.may; said = p.said }
 
 module _ {S E : Type 0} (a : ℕ → ℕ → List ℕ → Bool) (m : ℕ → ℕ → Bool) (p : Programs S E) (e : E) (c : Counts) (s : S) (w u : List ℕ) (q : Past S) where
-  abbrev k : Kept S
+  abbrev k : Channel S
   k = kept c (Running s) w u
 
   waits : (up : Bool) → Same up c.number (model.turned e (whole up k q) 0) (view.turned e k 0)
@@ -122,7 +123,7 @@ module _ {S E : Type 0} (p : Programs S E) where
   drained-in e c (Ended x) w u q n = record { past = q; turned = ap (λ z. whole_turn false z q) (both (leb c.left 1) (view.turned e (view.counted p (kept c (Ended x) w u)) 0)); number = ap (λ z. number_in z.kept) (sym (both (leb c.left 1) (view.turned e (view.counted p (kept c (Ended x) w u)) 0))) }
 
   drained-same : (y : model.Turned S E) (z : Turned S E) (t : ℕ) → Same false t y z → Same false t (drained p y) (view.drained_in p z.env z.kept)
-  drained-same y z t x = let r = drained-in z.env z.kept.counts z.kept.life z.kept.waiting z.kept.unsent x.past z.freed in
+  drained-same y z t x = let r = drained-in z.env z.kept.counts z.kept.life z.kept.input z.kept.output x.past z.freed in
       record { past = r.past; turned = ap (drained p) x.turned ∙ r.turned; number = r.number ∙ x.number }
 
   -- a turn of a program that runs

@@ -1,8 +1,9 @@
 -- What the calls of a server do, for every server of the model that it stands for. Assumes nothing.
-use Rattle.std.specs.Prelude.{◌≡◌, ℕ, suc, Bool, true, false, cond, not, ◌&&◌, List, [], ◌∷◌, ◌++◌, Some, None, Ok, Err, Option, Result, nat_lt}
+use Rattle.std.specs.Prelude.{◌≡◌, ℕ, suc, Bool, true, false, not, ◌&&◌, List, [], ◌∷◌, ◌++◌, Some, None, Ok, Err, Option, Result, nat_lt, if◌then◌else◌}
+use Rattle.programs.specs.Grants.{Grants}
 use Rattle.model.specs.Messages.{Rules, Programs, ToServer, Login, Tick, For, Request, Run, Input, OutputCredit, Eof, Close, ToClient, Did, did, Fault, TooManyTries, real}
 use Rattle.model.specs.Server.{Server, ServerChannel, new_server, channel_of, pass_to, is_refused, pass, receive_by, serve, turn, lose, is_empty}
-use Rattle.server_channel.specs.Kept.{Kept}
+use Rattle.server_channel.specs.declared.Channel.{Channel}
 use Rattle.desk.specs.View.{View, number_in, owed_by}
 use Rattle.message.specs.Views.{fault}
 use Rattle.server.specs.declared.Refusal.{Refusal}
@@ -19,10 +20,10 @@ module _ {S E : Type 0} where
   -- the fault that the model finds in a message
   abbrev pub login_fault : Rules → ℕ → ℕ → List ℕ → Option ℕ → Server S E → Option Fault
   login_fault r n u q (Some w) s = None
-  login_fault r n u q None s = cond (r.accepts n u q) None (cond (nat_lt (suc s.tries) r.tries) None (Some TooManyTries))
+  login_fault r n u q None s = if r.accepts n u q then None else if nat_lt (suc s.tries) r.tries then None else Some TooManyTries
 
   abbrev pub pass_fault : Rules → ℕ → Request → Server S E → Option Fault
-  pass_fault r t q s = cond (is_refused t (channel_of t s) s) None (fault_by (pass_to r t q (channel_of t s) s))
+  pass_fault r t q s = if is_refused t (channel_of t s) s then None else fault_by (pass_to r t q (channel_of t s) s)
 
   abbrev pub channel_fault : Rules → ℕ → Request → Server S E → Option Fault
   channel_fault r t (Run k) s = None
@@ -42,24 +43,24 @@ may_user may None k = false
 may_user may (Some u) k = may u k
 
 -- rules with the real limits, whose table for this connection is that of the accounts
-pub record Under (accepts : ℕ → List ℕ → Bool) (may : ℕ → ℕ → Bool) (a : ℕ → ℕ → List ℕ → Bool) (m : ℕ → ℕ → Bool) (n : ℕ) : Type 0 where
-  pub accepted : (u : ℕ) (q : List ℕ) → a n u q ≡ accepts u q
-  pub allowed : (u k : ℕ) → m u k ≡ may u k
+pub record Under (granted : Grants) (a : ℕ → ℕ → List ℕ → Bool) (m : ℕ → ℕ → Bool) (n : ℕ) : Type 0 where
+  pub accepted : (u : ℕ) (q : List ℕ) → a n u q ≡ granted.accepts u q
+  pub allowed : (u k : ℕ) → m u k ≡ granted.may u k
 
-module _ {S E : Type 0} (accepts : ℕ → List ℕ → Bool) (may : ℕ → ℕ → Bool) where
+module _ {S E : Type 0} (granted : Grants) where
   -- whatever the view stood for, it now stands for what the model came to, and owes what the model sends
   pub record Does (event : Rules → ℕ → Server S E → Did (Server S E) ToClient) (v : View S) (e : E) (w : View S) (e' : E) : Type 0 where
-    pub follows : (a : ℕ → ℕ → List ℕ → Bool) (m : ℕ → ℕ → Bool) (n : ℕ) → Under accepts may a m n → (s : Server S E) → StandsFor v e s → Follows (event (real a m) n s) w e'
+    pub follows : (a : ℕ → ℕ → List ℕ → Bool) (m : ℕ → ℕ → Bool) (n : ℕ) → Under granted a m n → (s : Server S E) → StandsFor v e s → Follows (event (real a m) n s) w e'
 
   -- before anything goes by itself
   pub record Does' (event : Rules → ℕ → Server S E → Did (Server S E) ToClient) (v : View S) (e : E) (w : View S) (e' : E) : Type 0 where
-    pub meets : (a : ℕ → ℕ → List ℕ → Bool) (m : ℕ → ℕ → Bool) (n : ℕ) → Under accepts may a m n → (xs : List (ServerChannel S)) (used : List ℕ) → Fits v xs used → Meets (event (real a m) n (at v e xs used)) w e'
+    pub meets : (a : ℕ → ℕ → List ℕ → Bool) (m : ℕ → ℕ → Bool) (n : ℕ) → Under granted a m n → (xs : List (ServerChannel S)) (used : List ℕ) → Fits v xs used → Meets (event (real a m) n (at v e xs used)) w e'
 
   pub record Faulty (message : ToServer) (v : View S) (e : E) (o : Option Fault) : Type 0 where
-    pub found : (a : ℕ → ℕ → List ℕ → Bool) (m : ℕ → ℕ → Bool) (n : ℕ) → Under accepts may a m n → (s : Server S E) → StandsFor v e s → fault_in (real a m) n message s ≡ o
+    pub found : (a : ℕ → ℕ → List ℕ → Bool) (m : ℕ → ℕ → Bool) (n : ℕ) → Under granted a m n → (s : Server S E) → StandsFor v e s → fault_in (real a m) n message s ≡ o
 
   pub record Faulty' (message : ToServer) (v : View S) (e : E) (o : Option Fault) : Type 0 where
-    pub found : (a : ℕ → ℕ → List ℕ → Bool) (m : ℕ → ℕ → Bool) (n : ℕ) → Under accepts may a m n → (xs : List (ServerChannel S)) (used : List ℕ) → Fits v xs used → fault_in (real a m) n message (at v e xs used) ≡ o
+    pub found : (a : ℕ → ℕ → List ℕ → Bool) (m : ℕ → ℕ → Bool) (n : ℕ) → Under granted a m n → (xs : List (ServerChannel S)) (used : List ℕ) → Fits v xs used → fault_in (real a m) n message (at v e xs used) ≡ o
 
   -- a message that is taken, or that is a fault
   pub record Takes (p : Programs S E) (message : ToServer) (v : View S) (e : E) (o : Option Fault) (w : View S) (e' : E) : Type 0 where
@@ -103,10 +104,10 @@ module _ {S E : Type 0} where
   abbrev pub losing : Rules → ℕ → Server S E → Did (Server S E) ToClient
   losing r n s = lose r s
 
-module _ {S E : Type 0} (accepts : ℕ → List ℕ → Bool) (may : ℕ → ℕ → Bool) where
+module _ {S E : Type 0} (granted : Grants) where
   -- an event that only messages that are owed put off
   abbrev pub Turns : (Rules → ℕ → Server S E → Did (Server S E) ToClient) → View S → E → Result Unit Refusal → View S → E → Type 0
-  Turns event v e (Ok u) w e' = (owed_by v ≡ []) × Does accepts may event v e w e'
+  Turns event v e (Ok u) w e' = (owed_by v ≡ []) × Does granted event v e w e'
   Turns event v e (Err refusal.Owed) w e' = owed_by v ≡ [] → ⊥
   Turns event v e (Err refusal.Down) w e' = ⊥
   Turns event v e (Err refusal.Busy) w e' = ⊥
@@ -135,17 +136,17 @@ module _ {S E : Type 0} where
   rounds r p (t ∷ ts) s = did (rounds r p ts (turn r p t s).side).side ((turn r p t s).sends ++ (rounds r p ts (turn r p t s).side).sends)
 
 -- the numbers of the channels that are held
-unfoldable pub numbers_of : {S : Type 0} → List (Kept S) → List ℕ
+unfoldable pub numbers_of : {S : Type 0} → List (Channel S) → List ℕ
 numbers_of [] = []
 numbers_of (k ∷ ks) = number_in k ∷ numbers_of ks
 
-module _ {S E : Type 0} (accepts : ℕ → List ℕ → Bool) (may : ℕ → ℕ → Bool) where
+module _ {S E : Type 0} (granted : Grants) where
   -- an event, of which all messages were sent
   pub record Sends (event : Rules → ℕ → Server S E → Did (Server S E) ToClient) (v : View S) (e : E) (w : View S) (e' : E) (sent : List ToClient) : Type 0 where
-    pub stands : (a : ℕ → ℕ → List ℕ → Bool) (m : ℕ → ℕ → Bool) (n : ℕ) → Under accepts may a m n → (s : Server S E) → StandsFor v e s → StandsFor w e' (event (real a m) n s).side
-    pub sends : (a : ℕ → ℕ → List ℕ → Bool) (m : ℕ → ℕ → Bool) (n : ℕ) → Under accepts may a m n → (s : Server S E) → StandsFor v e s → sent ≡ (event (real a m) n s).sends
+    pub stands : (a : ℕ → ℕ → List ℕ → Bool) (m : ℕ → ℕ → Bool) (n : ℕ) → Under granted a m n → (s : Server S E) → StandsFor v e s → StandsFor w e' (event (real a m) n s).side
+    pub sends : (a : ℕ → ℕ → List ℕ → Bool) (m : ℕ → ℕ → Bool) (n : ℕ) → Under granted a m n → (s : Server S E) → StandsFor v e s → sent ≡ (event (real a m) n s).sends
 
   -- what is left of the turns leads where all of them do
   pub record Leads (p : Programs S E) (ts : List ℕ) (v : View S) (e : E) (rest : List ℕ) (w : View S) (e' : E) (sent : List ToClient) : Type 0 where
-    pub leads : (a : ℕ → ℕ → List ℕ → Bool) (m : ℕ → ℕ → Bool) (n : ℕ) → Under accepts may a m n → (s : Server S E) → StandsFor v e s →
+    pub leads : (a : ℕ → ℕ → List ℕ → Bool) (m : ℕ → ℕ → Bool) (n : ℕ) → Under granted a m n → (s : Server S E) → StandsFor v e s →
         (z : Server S E) × StandsFor w e' z × (rounds (real a m) p ts s ≡ did (rounds (real a m) p rest z).side (sent ++ (rounds (real a m) p rest z).sends))

@@ -1,2 +1,3 @@
 pub mod Stands
 pub mod Calls
+pub mod Whole

@@ -1,10 +1,11 @@
 -- Which servers of the model a view stands for. Assumes nothing.
-use Rattle.std.specs.Prelude.{◌≡◌, ℕ, suc, ◌+◌, ◌<◌, ◌≤◌, Bool, true, false, cond, List, [], ◌∷◌, ◌++◌, length, nat_le}
+use Rattle.std.specs.Prelude.{◌≡◌, ℕ, suc, ◌+◌, ◌<◌, ◌≤◌, Bool, true, false, List, [], ◌∷◌, ◌++◌, length, nat_le, if◌then◌else◌}
 use Rattle.model.specs.Keyed.{is_in, above}
 use Rattle.model.specs.Server.{Server, ServerChannel, server}
 use Rattle.server_channel.specs.declared.Life.{Life}
 use Rattle.server_channel.specs.declared.Life.TheVariants.{Running, Ended}
-use Rattle.server_channel.specs.Kept.{Kept, exit_of}
+use Rattle.server_channel.specs.declared.Channel.{Channel}
+use Rattle.server_channel.specs.Kept.{exit_of}
 use Rattle.model.specs.Messages.{ToClient, Did, did}
 use Rattle.desk.specs.View.{View, number_in, flushed, owed_by, tells}
 
@@ -26,30 +27,30 @@ module _ {S : Type 0} where
   state_of (Ended n) t = t
 
   -- the model's channel, from what is kept of it and its past
-  abbrev pub whole : Bool → Kept S → Past S → ServerChannel S
+  abbrev pub whole : Bool → Channel S → Past S → ServerChannel S
   whole up k p =
       record {
         number = k.counts.number;
         command = p.command;
         user = p.user;
         state = state_of k.life p.state;
-        input = p.went ++ k.waiting;
+        input = p.went ++ k.input;
         read = length p.went;
         eof = k.counts.eof;
-        wrote = cond up (p.gone ++ k.unsent) p.gone;
-        sent = cond up (length p.gone) p.sent;
-        may = cond up (length p.gone + k.counts.credit) p.may;
+        wrote = if up then p.gone ++ k.output else p.gone;
+        sent = if up then length p.gone else p.sent;
+        may = if up then length p.gone + k.counts.credit else p.may;
         exit = exit_of k.life;
-        said = cond up k.counts.said p.said;
+        said = if up then k.counts.said else p.said;
         left = k.counts.left;
         forgotten = false;
       }
 
   -- the channels that are held stand among those that are forgotten, all in rising order from a number on; Good says which numbers may be
-  pub data Stand (up : Bool) (Good : ℕ → Type 0) : ℕ → List (Kept S) → List (ServerChannel S) → Type 0 where
+  pub data Stand (up : Bool) (Good : ℕ → Type 0) : ℕ → List (Channel S) → List (ServerChannel S) → Type 0 where
     none : {lo : ℕ} → Stand up Good lo [] []
-    past : {lo : ℕ} {ks : List (Kept S)} {x : ServerChannel S} {xs : List (ServerChannel S)} → x.forgotten ≡ true → lo ≤ x.number → Good x.number → Stand up Good (suc x.number) ks xs → Stand up Good lo ks (x ∷ xs)
-    held : {lo : ℕ} {k : Kept S} {ks : List (Kept S)} {x : ServerChannel S} {xs : List (ServerChannel S)} → (p : Past S) → x ≡ whole up k p → lo ≤ number_in k → Good (number_in k) → Stand up Good (suc (number_in k)) ks xs → Stand up Good lo (k ∷ ks) (x ∷ xs)
+    past : {lo : ℕ} {ks : List (Channel S)} {x : ServerChannel S} {xs : List (ServerChannel S)} → x.forgotten ≡ true → lo ≤ x.number → Good x.number → Stand up Good (suc x.number) ks xs → Stand up Good lo ks (x ∷ xs)
+    held : {lo : ℕ} {k : Channel S} {ks : List (Channel S)} {x : ServerChannel S} {xs : List (ServerChannel S)} → (p : Past S) → x ≡ whole up k p → lo ≤ number_in k → Good (number_in k) → Stand up Good (suc (number_in k)) ks xs → Stand up Good lo (k ∷ ks) (x ∷ xs)
 
 -- the numbers that were used
 pub record Uses (next : ℕ) (is_used : ℕ → Bool) (used : List ℕ) : Type 0 where

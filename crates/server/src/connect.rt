@@ -1,7 +1,8 @@
 // A server is made, and a new connection comes up.
-ghost use Rattle.std.specs.Prelude.{◌≡◌, IfOk};
+ghost use Rattle.std.specs.Prelude.{◌≡◌, ◌&&◌, not, length, nat_eq, IfOk};
 ghost use Rattle.desk.specs.Sight.{view_of};
-ghost use Rattle.server.specs.Calls.{Begins, Connects, IfNot, IfDone};
+ghost use Rattle.server.specs.Calls.{Begins, IfNot, IfDone};
+ghost use Rattle.server.specs.Whole.{ServerConnects};
 
 use crate::{Refusal, Server};
 use desk::Desk;
@@ -22,16 +23,20 @@ impl<P: Programs + Drop, A: Accounts + Drop> Server<P, A> {
         })
     }
 
+    // Whether the last connection is cut, and all its programs have ended.
+    fn is_over(&self) -> bool
+        ensures { result ≡ (not self.now.desk.up && nat_eq (length (view_of self.now.desk).channels) 0) }
+    {
+        !self.desk.is_up() && self.desk.held() == 0
+    }
+
     // A new connection comes up, with its accounts, once the last one is cut and all its programs have ended.
     pub fn connect(&mut self, accounts: A) -> Result<(), Refusal>
-        ensures after { Connects (view_of self.old.desk) self.old.programs result (view_of self.new.desk) self.new.programs }
+        ensures after { ServerConnects self.old result self.new }
         ensures accounts { IfDone result ((self.new.accounts ≡ accounts) × (self.new.programs ≡ self.old.programs)) }
         ensures refused { IfNot result (self.new ≡ self.old) }
     {
-        if self.desk.is_up() {
-            return Err(Refusal::Busy);
-        }
-        if self.desk.held() > 0 {
+        if !self.is_over() {
             return Err(Refusal::Busy);
         }
         self.desk.reset();

@@ -1,12 +1,12 @@
 // Turns of programs, what is owed, and the cut.
-ghost use Rattle.std.specs.Prelude.{◌≡◌, ◌<◌, true, length, Some};
-ghost use Rattle.programs.specs.Actions.{programs_by};
+ghost use Rattle.std.specs.Prelude.{◌≡◌, true, false, OnOk, IfErr};
 ghost use Rattle.desk.specs.Quiet.{silent};
-ghost use Rattle.desk.specs.Sight.{view_of, Hands, Finds};
-ghost use Rattle.server.specs.Calls.{Turns, Does, turning, losing, IfNot};
+ghost use Rattle.desk.specs.Sight.{view_of, Hands};
+ghost use Rattle.server.specs.Calls.{IfNot, losing, turning};
+ghost use Rattle.server.specs.Whole.{ServerTurns, ServerHasTurn};
+ghost use Rattle.server.specs.declared.Refusal.TheVariants.{Owed};
 
 use crate::{Refusal, Server};
-use desk::channels;
 use message::to_client::ToClient;
 use programs::accounts::Accounts;
 use programs::programs::Programs;
@@ -20,41 +20,48 @@ impl<P: Programs, A: Accounts> Server<P, A> {
         self.desk.next_message()
     }
 
-    // A turn of the program of a channel that is held at a place.
-    fn turn_at(&mut self, channel: u16, i: usize)
-        requires { (silent (view_of self.old.desk) ≡ true) × (Finds channel (view_of self.old.desk).channels (Some i)) }
-        ensures after { Does (A.Accounts.accepts self.old.accounts) (A.Accounts.may self.old.accounts) (turning (programs_by P.Programs.first P.Programs.does P.Programs.next P.Programs.after P.Programs.release) channel) (view_of self.old.desk) self.old.programs (view_of self.new.desk) self.new.programs }
+    // The check of a call that messages which are owed put off.
+    pub(crate) fn owes_nothing(&self) -> Result<(), Refusal>
+        ensures ok { OnOk result (silent (view_of self.now.desk) ≡ true) }
+        ensures err { IfErr result (λ r. (r ≡ Owed) × (silent (view_of self.now.desk) ≡ false)) }
+    {
+        if self.desk.is_silent() {
+            Ok(())
+        } else {
+            Err(Refusal::Owed)
+        }
+    }
+
+    // A turn of a channel's program, if the channel is held, but for what is then over.
+    fn take_turn(&mut self, channel: u16)
+        requires { silent (view_of self.old.desk) ≡ true }
+        ensures after { ServerHasTurn A.grants P.meaning channel self.old self.new }
         ensures same { self.new.accounts ≡ self.old.accounts }
     {
-        channels::turn(&mut self.programs, &mut self.desk, i);
-        self.desk.settle();
+        if let Some(i) = self.desk.find(channel) {
+            self.desk.turn(&mut self.programs, i);
+        }
     }
 
     // A turn of a channel's program, if it is held and runs, while nothing is owed.
     pub fn turn(&mut self, channel: u16) -> Result<(), Refusal>
-        ensures after { Turns (A.Accounts.accepts self.old.accounts) (A.Accounts.may self.old.accounts) (turning (programs_by P.Programs.first P.Programs.does P.Programs.next P.Programs.after P.Programs.release) channel) (view_of self.old.desk) self.old.programs result (view_of self.new.desk) self.new.programs }
+        ensures after { ServerTurns A.grants (turning P.meaning channel) self.old result self.new }
         ensures refused { IfNot result (self.new ≡ self.old) }
         ensures same { self.new.accounts ≡ self.old.accounts }
     {
-        if !self.desk.is_silent() {
-            return Err(Refusal::Owed);
-        }
-        match self.desk.find(channel) {
-            Some(i) => self.turn_at(channel, i),
-            None => self.desk.settle(),
-        }
+        self.owes_nothing()?;
+        self.take_turn(channel);
+        self.desk.settle();
         Ok(())
     }
 
     // The connection is cut, while nothing is owed.
     pub fn cut(&mut self) -> Result<(), Refusal>
-        ensures after { Turns (A.Accounts.accepts self.old.accounts) (A.Accounts.may self.old.accounts) losing (view_of self.old.desk) self.old.programs result (view_of self.new.desk) self.new.programs }
+        ensures after { ServerTurns A.grants losing self.old result self.new }
         ensures refused { IfNot result (self.new ≡ self.old) }
         ensures same { self.new.accounts ≡ self.old.accounts }
     {
-        if !self.desk.is_silent() {
-            return Err(Refusal::Owed);
-        }
+        self.owes_nothing()?;
         self.desk.cut();
         self.desk.settle();
         Ok(())

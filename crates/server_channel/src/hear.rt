@@ -1,8 +1,8 @@
 // What arrives for a channel.
-ghost use Rattle.std.specs.Prelude.{◌≡◌, ◌+◌, ◌<◌, [], MatchOption};
+ghost use Rattle.std.specs.Prelude.{◌≡◌, ◌+◌, ◌<◌, MatchOption};
 ghost use Rattle.model.specs.Messages as model;
 ghost use Rattle.message.specs.Views.{chunk_bytes, request};
-ghost use Rattle.server_channel.specs.Kept.{kept_of, Hears, credit_of};
+ghost use Rattle.server_channel.specs.Kept.{Hears, credit_of};
 
 use crate::{Channel, Counts};
 use message::chunk::Chunk;
@@ -22,10 +22,10 @@ impl Counts {
 impl<S: Drop> Channel<S> {
     // A message of the client for this channel.
     pub fn hear(&mut self, asked: Request) -> Result<(), Fault>
-        ensures { Hears (request asked) (kept_of self.old) result (kept_of self.new) }
+        ensures { Hears (request asked) self.old result self.new }
     {
         match asked {
-            Request::Run { command: _ } => Err(Fault::OutOfTurn),
+            Request::Run { .. } => Err(Fault::OutOfTurn),
             Request::Input(chunk) => self.hear_input(&chunk),
             Request::OutputCredit(more) => self.hear_credit(more),
             Request::Eof => self.hear_eof(),
@@ -34,7 +34,7 @@ impl<S: Drop> Channel<S> {
     }
 
     fn hear_input(&mut self, chunk: &Chunk) -> Result<(), Fault>
-        ensures { Hears (model.Input (chunk_bytes chunk.now)) (kept_of self.old) result (kept_of self.new) }
+        ensures { Hears (model.Input (chunk_bytes chunk.now)) self.old result self.new }
     {
         if self.counts.eof {
             return Err(Fault::OutOfTurn);
@@ -47,17 +47,14 @@ impl<S: Drop> Channel<S> {
     }
 
     fn hear_credit(&mut self, more: u32) -> Result<(), Fault>
-        ensures { Hears (model.OutputCredit more) (kept_of self.old) result (kept_of self.new) }
+        ensures { Hears (model.OutputCredit more) self.old result self.new }
     {
-        let Some(counts) = self.counts.granted(more) else {
-            return Err(Fault::Uncountable);
-        };
-        self.counts = counts;
+        self.counts = self.counts.granted(more).ok_or(Fault::Uncountable)?;
         Ok(())
     }
 
     fn hear_eof(&mut self) -> Result<(), Fault>
-        ensures { Hears model.Eof (kept_of self.old) result (kept_of self.new) }
+        ensures { Hears model.Eof self.old result self.new }
     {
         if self.counts.eof {
             return Err(Fault::OutOfTurn);
@@ -68,7 +65,7 @@ impl<S: Drop> Channel<S> {
 
     // Whether the client may be done with it: its exit was sent.
     fn hear_close(&self) -> Result<(), Fault>
-        ensures { Hears model.Close (kept_of self.now) result (kept_of self.now) }
+        ensures { Hears model.Close self.now result self.now }
     {
         if self.counts.said {
             Ok(())

@@ -1,31 +1,32 @@
-// A channel's memory, and a channel that starts.
-ghost use Rattle.std.specs.Prelude.{◌≡◌, not, IfOk};
-ghost use Rattle.server_channel.specs.Kept.{kept_of, spare, started, is_running};
+// A channel that starts in memory, and the memory again.
+ghost use Rattle.std.specs.Prelude.{◌≡◌, not};
+ghost use Rattle.server_channel.specs.Kept.{started, is_running};
 
-use crate::{Channel, Counts, DRAIN, Life, PART, WINDOW};
-use ring::Ring;
-use std::alloc::{AllocError, Global};
+use crate::{Buffers, Channel, Counts, DRAIN, Life, WINDOW};
 
 impl<S: Drop> Channel<S> {
-    // Memory for one channel, of which nothing runs.
-    pub fn new(heap: Global) -> Result<Channel<S>, AllocError>
-        ensures { IfOk result (λ c. kept_of c ≡ spare) }
+    // A program starts in this memory.
+    pub fn start(buffers: Buffers, number: u16, state: S) -> Channel<S>
+        ensures { result ≡ started number state }
     {
-        let input = Ring::with_capacity(heap, WINDOW)?;
-        let output = Ring::with_capacity(heap, PART)?;
-        let counts = Counts {
-            number: 0,
-            credit: 0,
-            left: 0,
-            eof: false,
-            said: false,
-        };
-        Ok(Channel {
-            counts,
-            life: Life::Ended(0),
+        let Buffers {
+            mut input,
+            mut output,
+        } = buffers;
+        input.clear();
+        output.clear();
+        Channel {
+            counts: Counts {
+                number,
+                credit: WINDOW as u64,
+                left: DRAIN,
+                eof: false,
+                said: false,
+            },
+            life: Life::Running(state),
             input,
             output,
-        })
+        }
     }
 
     pub fn number(&self) -> u16
@@ -37,25 +38,21 @@ impl<S: Drop> Channel<S> {
     pub fn has_ended(&self) -> bool
         ensures { result ≡ not (is_running self.now.life) }
     {
-        match self.life {
-            Life::Running(_) => false,
-            Life::Ended(_) => true,
-        }
+        matches!(&self.life, Life::Ended(_))
     }
+}
 
-    // A program starts in this memory.
-    pub fn start(&mut self, number: u16, state: S)
-        ensures { kept_of self.new ≡ started number state }
-    {
-        self.counts = Counts {
-            number,
-            credit: WINDOW as u64,
-            left: DRAIN,
-            eof: false,
-            said: false,
-        };
-        self.life = Life::Running(state);
-        self.input.clear();
-        self.output.clear();
+// Its memory, when the channel is done with.
+impl<S: Drop> From<Channel<S>> for Buffers {
+    ghost from_gives = { λ channel memory. memory ≡ record { input = channel.input; output = channel.output } };
+
+    fn from(channel: Channel<S>) -> Buffers {
+        let Channel {
+            counts: _,
+            life: _,
+            input,
+            output,
+        } = channel;
+        Buffers { input, output }
     }
 }

@@ -1,20 +1,25 @@
-use Rattle.std.proofs.Common.{sym, refl, ◌∙◌}
-use Rattle.model.specs.Messages.{Programs}
-use Rattle.programs.specs.Actions.{programs_by}
+use Rattle.std.proofs.Common.{[], ap, ◌∙◌}
+use Rattle.std.proofs.lemmas.Result.{err_from_is_err_and}
+use Rattle.model.specs.Messages.{did}
+use Rattle.model.specs.Server.{cut_server}
+use Rattle.desk.specs.View.{closed}
+use Rattle.desk.specs.Events.{cut_down}
 use Rattle.desk.specs.Sight.{view_of}
-use Rattle.server.proofs.Calling.{cut_left}
+use Rattle.server.proofs.Calling.{does-all, cuts}
 use Rattle.server.proofs.Finishing.{loud-owes, silent-owes}
-use Rattle.server.proofs.Server.cut.Given as given
 use Rattle.server.proofs.Server.cut.Goals as goal
 
-abbrev progs : (g : given.Over) → Programs g.row.P-State.Denot g.row.P.Denot
-progs g = programs_by g.P.Programs.first g.P.Programs.does g.P.Programs.next g.P.Programs.after g.P.Programs.release
+pub returns-in_err-owes_nothing-clause-after : goal.returns-in_err-owes_nothing-clause-after
+returns-in_err-owes_nothing-clause-after g c =
+    let p = err_from_is_err_and c.from_residual.result c.from_residual.ensures.1 in
+    let r = c.in_err-owes_nothing.ensures.err in
+    rw (p.1, p.2, r.0) (loud-owes (view_of c.args.self.now.desk) r.1)
 
-pub returns-then-not-is_silent : goal.returns-then-not-is_silent
-returns-then-not-is_silent g c = record { after = loud-owes (view_of c.args.self.now.desk) (sym c.is_silent.ensures ∙ c.if-not-is_silent.true); refused = refl; same = refl }
-
-pub returns : goal.returns
-returns g c =
+pub returns-clause-after : goal.returns-clause-after
+returns-clause-after g c =
     let s = c.args.self.now in
-    let q = sym c.is_silent.ensures ∙ c.if-not-is_silent.false in
-    record { after = (silent-owes (view_of s.desk) q, cut_left (g.A.Accounts.accepts s.accounts) (g.A.Accounts.may s.accounts) (progs g) (view_of s.desk) (view_of c.settle.new.self) s.programs (view_of c.cut.new.self) q c.cut.ensures c.settle.ensures); refused = tt; same = refl }
+    let v = view_of s.desk in
+    let p = g.P.Programs.meaning in
+    let q = c.in_ok-owes_nothing.ensures.ok in
+    let granted = g.A.Accounts.grants s.accounts in
+    (silent-owes v q, does-all granted p (λ r n z. did (cut_server z) []) v (cut_down v) (view_of c.settle.new.self) s.programs s.programs q (cuts granted p v s.programs q) (c.settle.ensures ∙ ap closed c.cut.ensures))

@@ -1,25 +1,20 @@
-use Rattle.std.proofs.Common.{refl, arith}
-use Rattle.model.specs.Messages.{Programs}
-use Rattle.message.specs.Views.{request, fault}
-use Rattle.programs.specs.Actions.{programs_by}
+use Rattle.std.proofs.Common.{sym, refl, ◌∙◌}
+use Rattle.message.specs.Views.{request}
 use Rattle.desk.specs.Sight.{view_of}
-use Rattle.desk.proofs.Slots.{desk-length}
-use Rattle.server.proofs.Calling.{passes-took, passes-fault}
-use Rattle.server.proofs.Server.pass.Given as given
+use Rattle.server.proofs.Calling.{passes-heard, dropped-left, unknown-left}
 use Rattle.server.proofs.Server.pass.Goals as goal
 
-abbrev progs : (g : given.Over) → Programs g.row.P-State.Denot g.row.P.Denot
-progs g = programs_by g.P.Programs.first g.P.Programs.does g.P.Programs.next g.P.Programs.after g.P.Programs.release
-
-pub hear-requires : goal.hear-requires
-hear-requires g c = let n = desk-length c.args.self.now.desk in let f = c.in-Some.ensures.0 in omega arith
-
-pub returns-in-Ok : goal.returns-in-Ok
-returns-in-Ok g c =
+pub returns-in-Some-clause-after : goal.returns-in-Some-clause-after
+returns-in-Some-clause-after g c =
     let s = c.args.self.now in
-    record { after = passes-took (g.A.Accounts.accepts s.accounts) (g.A.Accounts.may s.accounts) (progs g) (view_of s.desk) s.programs c.requires.0 c.args.channel c.in-Some.i (request c.args.asked) (view_of c.hear.new.self) c.in-Some.ensures c.in-Ok.ensures; same = refl }
+    passes-heard (g.A.Accounts.grants s.accounts) g.P.Programs.meaning (view_of s.desk) s.programs c.requires.0 c.args.channel c.in-Some.i (request c.args.asked) c.hear.result (view_of c.hear.new.self) c.in-Some.ensures c.hear.ensures
 
-pub returns-in-Err : goal.returns-in-Err
-returns-in-Err g c =
+pub returns-in-None-clause-after : goal.returns-in-None-clause-after
+returns-in-None-clause-after g c =
     let s = c.args.self.now in
-    record { after = passes-fault (g.A.Accounts.accepts s.accounts) (g.A.Accounts.may s.accounts) (progs g) (view_of s.desk) s.programs c.requires.0 c.args.channel c.in-Some.i (request c.args.asked) (fault c.in-Err.found) (view_of c.hear.new.self) c.in-Some.ensures c.in-Err.ensures; same = refl }
+    dropped-left (g.A.Accounts.grants s.accounts) g.P.Programs.meaning (view_of s.desk) (view_of s.desk) s.programs c.args.channel (request c.args.asked) c.requires.1 c.requires.0 c.ranges.channel.fits c.in-None.ensures (sym c.is_used.ensures ∙ c.if-is_used.true) refl
+
+pub returns-in-None-2-clause-after : goal.returns-in-None-2-clause-after
+returns-in-None-2-clause-after g c =
+    let s = c.args.self.now in
+    unknown-left (g.A.Accounts.grants s.accounts) g.P.Programs.meaning (view_of s.desk) (view_of c.cut.new.self) s.programs c.args.channel (request c.args.asked) c.requires.0 c.ranges.channel.fits c.in-None-2.ensures (sym c.is_used.ensures ∙ c.if-is_used.false) c.cut.ensures

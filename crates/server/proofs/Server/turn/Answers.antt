@@ -1,25 +1,20 @@
-use Rattle.std.proofs.Common.{sym, refl, ◌∙◌}
-use Rattle.model.specs.Messages.{Programs}
-use Rattle.programs.specs.Actions.{programs_by}
+use Rattle.model.specs.Server.{turn_of, channel_of}
+use Rattle.std.proofs.lemmas.Result.{err_from_is_err_and}
 use Rattle.desk.specs.Sight.{view_of}
-use Rattle.server.proofs.Calling.{untouched-left}
+use Rattle.server.proofs.Calling.{does-all}
 use Rattle.server.proofs.Finishing.{loud-owes, silent-owes}
-use Rattle.server.proofs.Server.turn.Given as given
 use Rattle.server.proofs.Server.turn.Goals as goal
 
-abbrev progs : (g : given.Over) → Programs g.row.P-State.Denot g.row.P.Denot
-progs g = programs_by g.P.Programs.first g.P.Programs.does g.P.Programs.next g.P.Programs.after g.P.Programs.release
+pub returns-in_err-owes_nothing-clause-after : goal.returns-in_err-owes_nothing-clause-after
+returns-in_err-owes_nothing-clause-after g c =
+    let p = err_from_is_err_and c.from_residual.result c.from_residual.ensures.1 in
+    let r = c.in_err-owes_nothing.ensures.err in
+    rw (p.1, p.2, r.0) (loud-owes (view_of c.args.self.now.desk) r.1)
 
-pub returns-then-not-is_silent : goal.returns-then-not-is_silent
-returns-then-not-is_silent g c = record { after = loud-owes (view_of c.args.self.now.desk) (sym c.is_silent.ensures ∙ c.if-not-is_silent.true); refused = refl; same = refl }
-
-pub returns-in-Some : goal.returns-in-Some
-returns-in-Some g c =
-    let q = sym c.is_silent.ensures ∙ c.if-not-is_silent.false in
-    record { after = (silent-owes (view_of c.args.self.now.desk) q, c.turn_at.ensures.after); refused = tt; same = c.turn_at.ensures.same }
-
-pub returns-in-None : goal.returns-in-None
-returns-in-None g c =
+pub returns-clause-after : goal.returns-clause-after
+returns-clause-after g c =
     let s = c.args.self.now in
-    let q = sym c.is_silent.ensures ∙ c.if-not-is_silent.false in
-    record { after = (silent-owes (view_of s.desk) q, untouched-left (g.A.Accounts.accepts s.accounts) (g.A.Accounts.may s.accounts) (progs g) (view_of s.desk) (view_of c.settle.new.self) s.programs c.args.channel q c.in-None.ensures c.settle.ensures); refused = tt; same = refl }
+    let t = c.take_turn.new.self in
+    let p = g.P.Programs.meaning in
+    let q = c.in_ok-owes_nothing.ensures.ok in
+    (silent-owes (view_of s.desk) q, does-all (g.A.Accounts.grants s.accounts) p (λ r n z. turn_of r p c.args.channel (channel_of c.args.channel z) z) (view_of s.desk) (view_of t.desk) (view_of c.settle.new.self) s.programs t.programs q c.take_turn.ensures.after c.settle.ensures)

@@ -1,18 +1,13 @@
-use Rattle.std.proofs.Common.{min, ◌∷◌, sym, refl, ap, ◌∙◌, arith}
-use Rattle.model.specs.Messages as model
+use Rattle.std.proofs.Common.{refl, sym, arith}
 use Rattle.message.specs.Views.{chunk_bytes}
-use Rattle.server_channel.specs.Kept.{kept, kept_of, due, settled}
 use Rattle.server_channel.proofs.Due.{handed, due-over, due-exiting}
 use Rattle.server_channel.proofs.Channel.next.Goals as goal
 
 pub returns-then-ready-gt0 : goal.returns-then-ready-gt0
-returns-then-ready-gt0 g c = handed (kept_of c.args.self.now) (kept_of c.send.new.self) c.min.result (chunk_bytes c.send.result) (c.min.ensures ∙ ap (λ v. min v 1024) c.ready-ready.ensures) (let e = c.ready-ready.ensures in omega arith) c.send.ensures.bytes c.send.ensures.left
+returns-then-ready-gt0 g c = handed c.args.self.now c.send.new.self c.min.result (chunk_bytes c.send.result) (omega arith) (omega arith) c.send.ensures.bytes c.send.ensures.left
 
-pub returns-in_default : goal.returns-in_default
-returns-in_default g c = (due-over (kept_of c.args.self.now) (let e = c.ready-ready.ensures in omega arith) (sym c.exit.ensures ∙ c.in_default.is), refl)
+pub returns-in_err-status : goal.returns-in_err-status
+returns-in_err-status g c = rw c.from_residual.ensures (due-over c.args.self.now (omega arith) (sym c.in_err-status.ensures), refl)
 
 pub returns : goal.returns
-returns g c =
-    let k = kept_of c.args.self.now in
-    let x = due-exiting k c.in-Some.status (let e = c.ready-ready.ensures in omega arith) (sym c.exit.ensures ∙ c.in-Some.is) in
-    (x.0 ∙ ap (λ v. model.Exit c.in-Some.status ∷ due (kept v k.life k.waiting k.unsent)) (sym c.told-self.ensures), x.1 ∙ ap (λ v. settled (kept v k.life k.waiting k.unsent)) (sym c.told-self.ensures))
+returns g c = due-exiting c.args.self.now c.in_ok-status.status (omega arith) (sym c.in_ok-status.ensures)
