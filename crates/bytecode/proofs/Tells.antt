@@ -9,16 +9,8 @@ use Rattle.bytecode.specs.Reading.{place_of, Rest}
 use Rattle.bytecode.specs.Laws.{BytesTell, RefusedIsNone}
 use Rattle.bytecode.proofs.Rows.{encoded-apart, length-encoded}
 
-none : length (bytes_of []) ≡ 0
-unfolding bytes_of
-none = refl
-
-more : (i : Instruction) (is : List Instruction) → bytes_of (i ∷ is) ≡ encoded i ++ bytes_of is
-unfolding bytes_of
-more i is = refl
-
 length_more : (i : Instruction) (is : List Instruction) → length (bytes_of (i ∷ is)) ≡ 8 + length (bytes_of is)
-length_more i is = ap length (more i is) ∙ length-append (encoded i) (bytes_of is) ∙ ap (λ n. n + length (bytes_of is)) (length-encoded i)
+length_more i is = length-append (encoded i) (bytes_of is) ∙ ap (λ n. n + length (bytes_of is)) (length-encoded i)
 
 front : (i : Instruction) (rest : List ℕ) → take 8 (encoded i ++ rest) ≡ encoded i
 front i rest = take_at (encoded i) rest 8 (length-encoded i)
@@ -31,7 +23,6 @@ same-tail i j p q e = append_cancel_left (encoded j) p q (ap (λ k. encoded k ++
 
 -- instructions at the front of a program's bytes are the program's first
 prefix : (before is : List Instruction) (rest : List ℕ) → bytes_of before ++ rest ≡ bytes_of is → (tail : List Instruction) × (is ≡ before ++ tail) × (rest ≡ bytes_of tail)
-unfolding bytes_of
 prefix [] is rest e = (is, refl, e)
 prefix (x ∷ before) [] rest e =
     absurd (let h : 8 + length (bytes_of before ++ rest) ≡ 0 = sym (ap length (append_assoc (encoded x) (bytes_of before) rest) ∙ length-append (encoded x) (bytes_of before ++ rest) ∙ ap (λ n. n + length (bytes_of before ++ rest)) (length-encoded x)) ∙ ap length e in omega arith)
@@ -55,9 +46,9 @@ refused-is-none bytes e s is short f =
     go e s.count s.here p.0 p.1 p.2
   where
     go : (e : Unreadable) → length s.before ≡ place_of e → Rest e s.rest → (tail : List Instruction) → is ≡ s.before ++ tail → s.rest ≡ bytes_of tail → ⊥
-    go (NoInstruction place) c r [] a b = let h = r.1 in let z = ap length b ∙ none in omega arith
-    go (NoInstruction place) c r (i ∷ tail) a b = r.2 i (sym (ap (take 8) (b ∙ more i tail) ∙ front i (bytes_of tail)))
-    go (CutShort place) c r [] a b = let h = r.1 in let z = ap length b ∙ none in omega arith
+    go (NoInstruction place) c r [] a b = let h = r.1 in let z = ap length b in omega arith
+    go (NoInstruction place) c r (i ∷ tail) a b = r.2 i (sym (ap (take 8) b ∙ front i (bytes_of tail)))
+    go (CutShort place) c r [] a b = let h = r.1 in let z = ap length b in omega arith
     go (CutShort place) c r (i ∷ tail) a b = let h = r.2 in let z = ap length b ∙ length_more i tail in omega arith
-    go TooMany c r [] a b = let z = ap length b ∙ none in omega arith
+    go TooMany c r [] a b = let z = ap length b in omega arith
     go TooMany c r (i ∷ tail) a b = let z = ap length a ∙ length-append s.before (i ∷ tail) in omega arith

@@ -1,5 +1,6 @@
 -- The bytes of an instruction, and of a program. Assumes nothing.
-use Rattle.std.specs.Prelude.{ℕ, ◌/◌, ◌%◌, cond, List, [], ◌∷◌, ◌++◌, ◌==◌}
+use Rattle.std.specs.Prelude.{ℕ, ◌/◌, ◌%◌, if◌then◌else◌, List, [], ◌∷◌, ◌==◌}
+use Rattle.std.specs.List.{flat_map}
 use Rattle.std.proofs.Common.{mod-lt, arith}
 use Rattle.bytecode.specs.declared.register.Register.{Register}
 use Rattle.bytecode.specs.declared.instruction.Instruction.{Instruction}
@@ -25,9 +26,8 @@ encoded (Write a b) = row 11 a.number b.number 0 0
 encoded (End a) = row 12 a.number 0 0 0
 encoded GoOn = row 13 0 0 0 0
 
-unfoldable pub bytes_of : List Instruction → List ℕ
-bytes_of [] = []
-bytes_of (i ∷ is) = encoded i ++ bytes_of is
+abbrev pub bytes_of : List Instruction → List ℕ
+bytes_of is = flat_map encoded is
 
 -- the one instruction that a row may be, by its opcode alone; its bytes are then compared with the row
 abbrev pub low : ℕ → Register
@@ -35,7 +35,7 @@ low n = record { number = n % 16; ok = mod-lt n (omega arith) }
 
 abbrev pub guessed : (opcode a b c n : ℕ) → Instruction
 guessed opcode a b c n =
-    cond (opcode == 1) (Const (low a) n) (cond (opcode == 2) (Move (low a) (low b)) (cond (opcode == 3) (Add (low a) (low b) (low c))
-    (cond (opcode == 4) (Compare (low a) (low b)) (cond (opcode == 5) (Jump n) (cond (opcode == 6) (JumpLess n) (cond (opcode == 7) (JumpEqual n)
-    (cond (opcode == 8) (Load (low a) (low b)) (cond (opcode == 9) (Store (low a) (low b)) (cond (opcode == 10) (Read (low a) (low b) (low c))
-    (cond (opcode == 11) (Write (low a) (low b)) (cond (opcode == 12) (End (low a)) GoOn)))))))))))
+    if opcode == 1 then Const (low a) n else (if opcode == 2 then Move (low a) (low b) else (if opcode == 3 then Add (low a) (low b) (low c) else
+    (if opcode == 4 then Compare (low a) (low b) else (if opcode == 5 then Jump n else (if opcode == 6 then JumpLess n else (if opcode == 7 then JumpEqual n else
+    (if opcode == 8 then Load (low a) (low b) else (if opcode == 9 then Store (low a) (low b) else (if opcode == 10 then Read (low a) (low b) (low c) else
+    (if opcode == 11 then Write (low a) (low b) else (if opcode == 12 then End (low a) else GoOn)))))))))))

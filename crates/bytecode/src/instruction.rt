@@ -4,7 +4,7 @@ use crate::register::Register;
 pub mod bytes;
 
 // The registers of each are a, b and c of docs/MACHINE.md, in this order.
-#[derive(Clone, Copy)]
+#[derive(Clone, Copy, PartialEq, Eq, Debug)]
 pub enum Instruction {
     Const(Register, u32),
     Move(Register, Register),

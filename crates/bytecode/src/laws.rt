@@ -2,15 +2,11 @@
 ghost use Rattle.bytecode.specs.Laws.{BytesTell, RefusedIsNone};
 
 // No two programs have the same bytes.
-pub fn bytes_tell() -> u8
+pub fn bytes_tell()
     ensures { BytesTell }
-{
-    0
-}
+{}
 
 // What is refused is no program.
-pub fn refused_is_none() -> u8
+pub fn refused_is_none()
     ensures { RefusedIsNone }
-{
-    0
-}
+{}

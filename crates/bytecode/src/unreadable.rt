@@ -1,13 +1,13 @@
 // Bytes that are no program.
 ghost use Rattle.std.specs.Prelude.{◌≡◌};
-ghost use Rattle.bytecode.specs.declared.unreadable.ReadError.TheVariants.{NoMemory};
+ghost use Rattle.bytecode.specs.declared.unreadable.ReadError.TheVariants as error;
 
 use std::alloc::AllocFailed;
 
 pub mod fault;
 
 // Places count instructions, from 0.
-#[derive(Clone, Copy)]
+#[derive(Clone, Copy, PartialEq, Eq, Debug)]
 pub enum Unreadable {
     // these 8 bytes are no instruction
     NoInstruction { place: usize },
@@ -17,14 +17,22 @@ pub enum Unreadable {
     TooMany,
 }
 
-#[derive(Clone, Copy)]
+#[derive(Clone, Copy, PartialEq, Eq, Debug)]
 pub enum ReadError {
     Unreadable(Unreadable),
     NoMemory,
 }
 
+impl From<Unreadable> for ReadError {
+    ghost from_gives = { λ e r. r ≡ error.Unreadable e };
+
+    fn from(found: Unreadable) -> ReadError {
+        ReadError::Unreadable(found)
+    }
+}
+
 impl<T: Drop> From<AllocFailed<T>> for ReadError {
-    ghost from_gives = { λ _ r. r ≡ NoMemory };
+    ghost from_gives = { λ _ r. r ≡ error.NoMemory };
 
     fn from(_refused: AllocFailed<T>) -> ReadError {
         ReadError::NoMemory

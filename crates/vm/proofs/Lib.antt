@@ -1,4 +1,3 @@
 pub mod Runs
 pub mod Wraps
-pub mod Found
 pub mod Theorems

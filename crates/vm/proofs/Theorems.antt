@@ -1,6 +1,7 @@
 -- The proofs of the laws.
-use Rattle.std.proofs.Common.{◌≡◌, ℕ, zero, suc, ◌+◌, ◌%◌, ◌<◌, ◌≤◌, Bool, true, false, cond, ◌&&◌, leb, ◌⊎◌, List, [], ◌∷◌, ◌++◌, length, get_or, set, Some, None, Option, sym, refl, ap, ◌∙◌, inl, inr, eq-or-lt_of_le, arith, length-append, length-set, get_or-set_other, get_or-set_same, leb-true}
+use Rattle.std.proofs.Common.{◌≡◌, ℕ, zero, suc, ◌+◌, ◌%◌, ◌<◌, ◌≤◌, Bool, true, false, cond, leb, ◌⊎◌, List, [], ◌∷◌, ◌++◌, length, get_or, set, Some, None, Option, sym, refl, ap, ◌∙◌, inl, inr, eq-or-lt_of_le, arith, length-append, length-set, get_or-set_other, get_or-set_same, leb-true}
 use Rattle.std.proofs.lemmas.List.{get_or_append_left, get_or_at}
+use Rattle.std.proofs.lemmas.Bool.Decides.{nat_tests}
 use Rattle.std.specs.List.{slice_get}
 use Rattle.model.specs.Messages.{Reads, Writes, Ends}
 use Rattle.bytecode.specs.declared.instruction.Instruction.{Instruction}
@@ -10,6 +11,7 @@ use Rattle.vm.specs.Step.{get}
 use Rattle.vm.specs.Turn.{stops, stepped, runs}
 use Rattle.vm.specs.Ends.{bytes_from, bytes_to, is_length, asks, asks_at}
 use Rattle.vm.specs.Commands.{code_of}
+use Rattle.vm.proofs.Wraps.{from_none, from_suc, to_none, to_suc}
 use Rattle.vm.specs.Laws.{steps, TurnIsShort, Possible, AsksWhatCanBe, WritesRound, ReadsRound}
 
 -- a run of at most n
@@ -47,16 +49,8 @@ turn-is-short c m =
     end r (inr h) = inr (omega arith)
 
 -- addresses
-from-none : (at : ℕ) (memory : List ℕ) → length (bytes_from at 0 memory) ≡ 0
-unfolding bytes_from
-from-none at memory = refl
-
-from_suc : (at n : ℕ) (memory : List ℕ) → bytes_from at (suc n) memory ≡ bytes_from at n memory ++ (get_or memory ((at + n) % 256) 0 ∷ [])
-unfolding bytes_from
-from_suc at n memory = refl
-
 length_from : (at n : ℕ) (memory : List ℕ) → length (bytes_from at n memory) ≡ n
-length_from at zero memory = from-none at memory
+length_from at zero memory = ap length (from_none at memory)
 length_from at (suc n) memory =
     ap length (from_suc at n memory) ∙ length-append (bytes_from at n memory) (get_or memory ((at + n) % 256) 0 ∷ []) ∙ (let h = length_from at n memory in omega arith)
 
@@ -71,22 +65,14 @@ get_or-from at (suc n) memory k h = ap (λ l. get_or l k 0) (from_suc at n memor
 pub writes-round : WritesRound
 writes-round at n memory = (length_from at n memory, get_or-from at n memory)
 
-to_none : (at : ℕ) (bytes memory : List ℕ) → bytes_to at 0 bytes memory ≡ memory
-unfolding bytes_to
-to_none at bytes memory = refl
-
-to-suc : (at n : ℕ) (bytes memory : List ℕ) → bytes_to at (suc n) bytes memory ≡ set (bytes_to at n bytes memory) ((at + n) % 256) (get_or bytes n 0)
-unfolding bytes_to
-to-suc at n bytes memory = refl
-
 length_to : (at n : ℕ) (bytes memory : List ℕ) → length (bytes_to at n bytes memory) ≡ length memory
 length_to at zero bytes memory = ap length (to_none at bytes memory)
-length_to at (suc n) bytes memory = ap length (to-suc at n bytes memory) ∙ length-set (bytes_to at n bytes memory) ((at + n) % 256) (get_or bytes n 0) ∙ length_to at n bytes memory
+length_to at (suc n) bytes memory = ap length (to_suc at n bytes memory) ∙ length-set (bytes_to at n bytes memory) ((at + n) % 256) (get_or bytes n 0) ∙ length_to at n bytes memory
 
 module _ (at : ℕ) (bytes memory : List ℕ) (whole : length memory ≡ 256) where
   latest : (n k : ℕ) → k < n → ((j : ℕ) → k < j → j < n → (at + j) % 256 ≡ (at + k) % 256 → ⊥) → get_or (bytes_to at n bytes memory) ((at + k) % 256) 0 ≡ get_or bytes k 0
   latest zero k h apart = absurd (omega arith)
-  latest (suc n) k h apart = ap (λ l. get_or l ((at + k) % 256) 0) (to-suc at n bytes memory) ∙ go (latest n k) (eq-or-lt_of_le (let l : k ≤ n = omega arith in l))
+  latest (suc n) k h apart = ap (λ l. get_or l ((at + k) % 256) 0) (to_suc at n bytes memory) ∙ go (latest n k) (eq-or-lt_of_le (let l : k ≤ n = omega arith in l))
     where
       go : (k < n → ((j : ℕ) → k < j → j < n → (at + j) % 256 ≡ (at + k) % 256 → ⊥) → get_or (bytes_to at n bytes memory) ((at + k) % 256) 0 ≡ get_or bytes k 0) → (k ≡ n) ⊎ (k < n) →
           get_or (set (bytes_to at n bytes memory) ((at + n) % 256) (get_or bytes n 0)) ((at + k) % 256) 0 ≡ get_or bytes k 0
@@ -100,7 +86,7 @@ module _ (at : ℕ) (bytes memory : List ℕ) (whole : length memory ≡ 256) wh
   kept : (n a : ℕ) → ((j : ℕ) → j < n → (at + j) % 256 ≡ a → ⊥) → get_or (bytes_to at n bytes memory) a 0 ≡ get_or memory a 0
   kept zero a apart = ap (λ l. get_or l a 0) (to_none at bytes memory)
   kept (suc n) a apart =
-      ap (λ l. get_or l a 0) (to-suc at n bytes memory) ∙
+      ap (λ l. get_or l a 0) (to_suc at n bytes memory) ∙
       get_or-set_other (bytes_to at n bytes memory) ((at + n) % 256) a (get_or bytes n 0) 0 (λ e. apart n (omega arith) (sym e)) ∙
       kept n a (λ j l. apart j (omega arith))
 
@@ -109,12 +95,7 @@ reads-round at n bytes memory whole = (latest at bytes memory whole n, kept at b
 
 -- requests
 is-length : (n : ℕ) → is_length n ≡ true → (1 ≤ n) × (n ≤ 1024)
-is-length n e = go (leb 1 n) (leb n 1024) refl refl e
-  where
-    go : (a b : Bool) → leb 1 n ≡ a → leb n 1024 ≡ b → (a && b) ≡ true → (1 ≤ n) × (n ≤ 1024)
-    go true true f g h = (leb-true 1 n f, leb-true n 1024 g)
-    go true false f g h = absurd (let z : ◌≡◌ {A = ℕ} 0 1 = cc in omega arith)
-    go false b f g h = absurd (let z : ◌≡◌ {A = ℕ} 0 1 = cc in omega arith)
+is-length n e = grind (arith, nat_tests)
 
 reads : (b : Bool) (n : ℕ) → is_length n ≡ b → Possible (cond b (Reads n) (Ends 255))
 reads true n e = is-length n e

@@ -1,25 +1,23 @@
 -- The programs of commands, and what a command's program does turn by turn. Assumes nothing.
-use Rattle.std.specs.Prelude.{ℕ, Bool, cond, List, [], ◌∷◌, Some, None, vec_items, Option, ◌==◌}
-use Rattle.model.specs.Messages.{Does}
+use Rattle.std.specs.Prelude.{ℕ, Bool, List, [], Some, None, Option}
+use Rattle.std.specs.BTreeMap.{get}
+use Rattle.std.specs.Ordering.{nat_cmp}
+use Rattle.model.specs.Messages.{Does, Programs}
 use Rattle.bytecode.specs.declared.instruction.Instruction.{Instruction}
 use Rattle.vm.specs.declared.machine.Machine.{Machine}
 use Rattle.bytecode.specs.declared.program.Program.{Program}
-use Rattle.vm.specs.declared.table.Listed.{Listed}
 use Rattle.vm.specs.declared.table.Table.{Table}
 use Rattle.vm.specs.declared.running.Running.{Running}
 use Rattle.bytecode.specs.Reading.{instructions_of}
 use Rattle.vm.specs.Turn.{fresh, runs}
 use Rattle.vm.specs.Ends.{asks_in, resumed}
 
-abbrev pub listed_of : Table → List Listed
-listed_of t = vec_items t.all
-
-unfoldable pub program_in : List Listed → ℕ → Option Program
-program_in [] k = None
-program_in (x ∷ xs) k = cond (x.command == k) (Some x.program) (program_in xs k)
+-- the commands that have a program, each beside it
+abbrev pub listed_of : Table → List (ℕ × Program)
+listed_of t = t.programs.entries
 
 abbrev pub program_of : Table → ℕ → Option Program
-program_of t k = program_in (listed_of t) k
+program_of t k = get nat_cmp t.programs k
 
 -- a command that is not listed has no instructions
 abbrev pub code_from : Option Program → List Instruction
@@ -41,3 +39,7 @@ does_of t s = asks_in (code_of t s.command) s.machine
 
 abbrev pub next_of : Table → Running → List ℕ → Bool → Running
 next_of t s bytes eof = running s.command (resumed (code_of t s.command) bytes eof s.machine)
+
+-- the programs of the model that a table's are: none changes the table
+abbrev pub programs : Programs Running Table
+programs = record { first = first_of; does = does_of; next = next_of; after = λ t s bytes eof. t; release = λ t s. t }

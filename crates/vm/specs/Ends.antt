@@ -1,5 +1,5 @@
 -- The instructions that end a turn: what they ask for, and what they do once that was done. Assumes nothing.
-use Rattle.std.specs.Prelude.{ℕ, zero, suc, ◌+◌, ◌%◌, Bool, cond, ◌&&◌, List, [], ◌∷◌, ◌++◌, length, Some, None, Option, nat_le, slice_index, slice_set}
+use Rattle.std.specs.Prelude.{ℕ, zero, suc, ◌+◌, ◌%◌, Bool, if◌then◌else◌, ◌&&◌, List, [], ◌∷◌, ◌++◌, length, Some, None, Option, nat_le, slice_index, slice_set}
 use Rattle.std.specs.List.{slice_get}
 use Rattle.model.specs.Messages.{Does, Reads, Writes, Ends, GoesOn}
 use Rattle.vm.specs.declared.machine.Machine.{Machine}
@@ -18,7 +18,7 @@ bytes_to at zero bytes memory = memory
 bytes_to at (suc n) bytes memory = slice_set (bytes_to at n bytes memory) ((at + n) % 256) (slice_index bytes n)
 
 abbrev pub with_memory : List ℕ → Machine → Machine
-with_memory memory m = record { registers = m.registers; memory = memory; counter = m.counter; less = m.less; equal = m.equal }
+with_memory memory m = record m { memory = memory }
 
 abbrev pub filled : ℕ → List ℕ → Machine → Machine
 filled at bytes m = with_memory (bytes_to at (length bytes) bytes m.memory) m
@@ -38,9 +38,9 @@ asks (JumpLess to) m = GoesOn
 asks (JumpEqual to) m = GoesOn
 asks (Load a b) m = GoesOn
 asks (Store a b) m = GoesOn
-asks (Read a b c) m = cond (is_length (get a m)) (Reads (get a m)) (Ends 255)
-asks (Write a b) m = cond (is_length (get a m)) (Writes (bytes_from (get b m) (get a m) m.memory)) (Ends 255)
-asks (End a) m = cond (nat_le (get a m) 255) (Ends (get a m)) (Ends 255)
+asks (Read a b c) m = if is_length (get a m) then Reads (get a m) else Ends 255
+asks (Write a b) m = if is_length (get a m) then Writes (bytes_from (get b m) (get a m) m.memory) else Ends 255
+asks (End a) m = if nat_le (get a m) 255 then Ends (get a m) else Ends 255
 asks GoOn m = GoesOn
 
 -- the machine once that was done, with the bytes that came and whether no more will come
@@ -54,7 +54,7 @@ complete (JumpLess to) bytes eof m = execute (JumpLess to) m
 complete (JumpEqual to) bytes eof m = execute (JumpEqual to) m
 complete (Load a b) bytes eof m = execute (Load a b) m
 complete (Store a b) bytes eof m = execute (Store a b) m
-complete (Read a b c) bytes eof m = onward (put c (cond eof 1 0) (put a (length bytes % 0x1_0000_0000) (filled (get b m) bytes m)))
+complete (Read a b c) bytes eof m = onward (put c (if eof then 1 else 0) (put a (length bytes % 0x1_0000_0000) (filled (get b m) bytes m)))
 complete (Write a b) bytes eof m = onward m
 complete (End a) bytes eof m = m
 complete GoOn bytes eof m = onward m

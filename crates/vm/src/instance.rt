@@ -1,6 +1,5 @@
 // The programs of a table, as the server runs them.
-ghost use Rattle.std.specs.Prelude.{◌≡◌};
-ghost use Rattle.vm.specs.Commands.{first_of, does_of, next_of};
+ghost use Rattle.vm.specs.Commands.{programs};
 
 use crate::machine::Machine;
 use crate::running::Running;
@@ -10,16 +9,7 @@ use programs::programs::{Action, Programs};
 impl Programs for Table {
     type State = Running;
 
-    ghost first = { first_of };
-
-    ghost does = { does_of };
-
-    ghost next = { next_of };
-
-    // no program changes the table
-    ghost after = { λ t _ _ _. t };
-
-    ghost release = { λ t _. t };
+    ghost meaning = { programs };
 
     fn start(&self, command: u8) -> Running {
         Running {

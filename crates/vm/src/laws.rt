@@ -2,29 +2,21 @@
 ghost use Rattle.vm.specs.Laws.{TurnIsShort, AsksWhatCanBe, WritesRound, ReadsRound};
 
 // A turn is at most 10,000 instructions, and none before its last ends it.
-pub fn turn_is_short() -> u8
+pub fn turn_is_short()
     ensures { TurnIsShort }
-{
-    0
-}
+{}
 
 // Nothing is asked for that cannot be.
-pub fn asks_what_can_be() -> u8
+pub fn asks_what_can_be()
     ensures { AsksWhatCanBe }
-{
-    0
-}
+{}
 
 // What is written comes from addresses that go round.
-pub fn writes_round() -> u8
+pub fn writes_round()
     ensures { WritesRound }
-{
-    0
-}
+{}
 
 // What is read goes to addresses that go round, and of two bytes at one address the later stays.
-pub fn reads_round() -> u8
+pub fn reads_round()
     ensures { ReadsRound }
-{
-    0
-}
+{}

@@ -1,7 +1,9 @@
 // The programs of up to 64 commands.
-ghost use Rattle.std.specs.Prelude.{◌≤◌, vec_len};
+ghost use Rattle.std.specs.Prelude.{◌≤◌};
+ghost use Rattle.std.specs.BTreeMap.{btree_map_len};
 
 use bytecode::program::Program;
+use std::collections::BTreeMap;
 
 pub mod add;
 pub mod lookup;
@@ -9,13 +11,7 @@ pub mod lookup;
 pub const MOST: usize = 64;
 
 #[derive(Drop)]
-pub struct Listed {
-    command: u8,
-    program: Program,
-}
-
-#[derive(Drop)]
 pub struct Table {
-    all: Vec<Listed>,
-    ghost ok: { vec_len all ≤ 64 },
+    programs: BTreeMap<u8, Program>,
+    ghost ok: { btree_map_len programs ≤ 64 },
 }

@@ -1,10 +1,37 @@
 // An instruction as 8 bytes: opcode, three registers, a number with its high byte first.
-ghost use Rattle.std.specs.Prelude.{◌≡◌, ◌<◌, MatchOption, ◌≢◌};
+ghost use Rattle.std.specs.Prelude.{◌≡◌, MatchResult, ◌≢◌};
 ghost use Rattle.bytecode.specs.declared.instruction.Instruction.{Instruction as SomeInstruction};
 ghost use Rattle.bytecode.specs.Encoding.{row, encoded, low, guessed};
 
 use crate::instruction::Instruction;
 use crate::register::Register;
+
+// Kept: numbers and no enum of their own, which would only list the variants of `Instruction` again.
+const CONST: u8 = 1;
+
+const MOVE: u8 = 2;
+
+const ADD: u8 = 3;
+
+const COMPARE: u8 = 4;
+
+const JUMP: u8 = 5;
+
+const JUMP_LESS: u8 = 6;
+
+const JUMP_EQUAL: u8 = 7;
+
+const LOAD: u8 = 8;
+
+const STORE: u8 = 9;
+
+const READ: u8 = 10;
+
+const WRITE: u8 = 11;
+
+const END: u8 = 12;
+
+const GO_ON: u8 = 13;
 
 fn row(opcode: u8, a: u8, b: u8, c: u8, n: u32) -> [u8; 8]
     ensures { result ≡ row opcode a b c n }
@@ -21,62 +48,69 @@ fn low(byte: u8) -> Register
 }
 
 // The one instruction that a row of bytes may be.
+// Kept: a guess that is then compared with the row, so that no register and no unused byte needs a test of its own.
 fn guess(opcode: u8, a: u8, b: u8, c: u8, n: u32) -> Instruction
     ensures { result ≡ guessed opcode a b c n }
 {
     let (a, b, c) = (low(a), low(b), low(c));
     match opcode {
-        1 => Instruction::Const(a, n),
-        2 => Instruction::Move(a, b),
-        3 => Instruction::Add(a, b, c),
-        4 => Instruction::Compare(a, b),
-        5 => Instruction::Jump(n),
-        6 => Instruction::JumpLess(n),
-        7 => Instruction::JumpEqual(n),
-        8 => Instruction::Load(a, b),
-        9 => Instruction::Store(a, b),
-        10 => Instruction::Read(a, b, c),
-        11 => Instruction::Write(a, b),
-        12 => Instruction::End(a),
+        CONST => Instruction::Const(a, n),
+        MOVE => Instruction::Move(a, b),
+        ADD => Instruction::Add(a, b, c),
+        COMPARE => Instruction::Compare(a, b),
+        JUMP => Instruction::Jump(n),
+        JUMP_LESS => Instruction::JumpLess(n),
+        JUMP_EQUAL => Instruction::JumpEqual(n),
+        LOAD => Instruction::Load(a, b),
+        STORE => Instruction::Store(a, b),
+        READ => Instruction::Read(a, b, c),
+        WRITE => Instruction::Write(a, b),
+        END => Instruction::End(a),
         _ => Instruction::GoOn,
     }
 }
 
-impl Instruction {
-    pub fn encode(self) -> [u8; 8]
-        ensures { result ≡ encoded self }
-    {
-        match self {
-            Instruction::Const(a, n) => row(1, a.number, 0, 0, n),
-            Instruction::Move(a, b) => row(2, a.number, b.number, 0, 0),
-            Instruction::Add(a, b, c) => row(3, a.number, b.number, c.number, 0),
-            Instruction::Compare(a, b) => row(4, a.number, b.number, 0, 0),
-            Instruction::Jump(to) => row(5, 0, 0, 0, to),
-            Instruction::JumpLess(to) => row(6, 0, 0, 0, to),
-            Instruction::JumpEqual(to) => row(7, 0, 0, 0, to),
-            Instruction::Load(a, b) => row(8, a.number, b.number, 0, 0),
-            Instruction::Store(a, b) => row(9, a.number, b.number, 0, 0),
-            Instruction::Read(a, b, c) => row(10, a.number, b.number, c.number, 0),
-            Instruction::Write(a, b) => row(11, a.number, b.number, 0, 0),
-            Instruction::End(a) => row(12, a.number, 0, 0, 0),
-            Instruction::GoOn => row(13, 0, 0, 0, 0),
+impl From<Instruction> for [u8; 8] {
+    ghost from_gives = { λ i bytes. bytes ≡ encoded i };
+
+    fn from(instruction: Instruction) -> [u8; 8] {
+        match instruction {
+            Instruction::Const(a, n) => row(CONST, a.number, 0, 0, n),
+            Instruction::Move(a, b) => row(MOVE, a.number, b.number, 0, 0),
+            Instruction::Add(a, b, c) => row(ADD, a.number, b.number, c.number, 0),
+            Instruction::Compare(a, b) => row(COMPARE, a.number, b.number, 0, 0),
+            Instruction::Jump(to) => row(JUMP, 0, 0, 0, to),
+            Instruction::JumpLess(to) => row(JUMP_LESS, 0, 0, 0, to),
+            Instruction::JumpEqual(to) => row(JUMP_EQUAL, 0, 0, 0, to),
+            Instruction::Load(a, b) => row(LOAD, a.number, b.number, 0, 0),
+            Instruction::Store(a, b) => row(STORE, a.number, b.number, 0, 0),
+            Instruction::Read(a, b, c) => row(READ, a.number, b.number, c.number, 0),
+            Instruction::Write(a, b) => row(WRITE, a.number, b.number, 0, 0),
+            Instruction::End(a) => row(END, a.number, 0, 0, 0),
+            Instruction::GoOn => row(GO_ON, 0, 0, 0, 0),
         }
     }
+}
 
-    // The instruction whose bytes these are, if they are an instruction's.
-    pub fn decode(bytes: &[u8]) -> Option<Instruction>
-        ensures { MatchOption result ((i : SomeInstruction) → encoded i ≢ bytes.now) (λ i. encoded i ≡ bytes.now) }
-    {
+// Bytes that are no instruction's.
+#[derive(Clone, Copy, PartialEq, Eq, Debug)]
+pub struct NoInstruction;
+
+impl TryFrom<&[u8]> for Instruction {
+    type Error = NoInstruction;
+
+    ghost try_from_gives = { λ bytes r. MatchResult r (λ i. encoded i ≡ bytes.now) (λ _. (i : SomeInstruction) → encoded i ≢ bytes.now) };
+
+    fn try_from(bytes: &[u8]) -> Result<Instruction, NoInstruction> {
         let [opcode, a, b, c, n0, n1, n2, n3] = bytes else {
-            return None;
+            return Err(NoInstruction);
         };
         let n = u32::from_be_bytes([*n0, *n1, *n2, *n3]);
         let guessed = guess(*opcode, *a, *b, *c, n);
-        let row = guessed.encode();
-        if row.as_slice() == bytes {
-            Some(guessed)
+        if <[u8; 8]>::from(guessed).as_slice() == bytes {
+            Ok(guessed)
         } else {
-            None
+            Err(NoInstruction)
         }
     }
 }

@@ -14,21 +14,18 @@ impl Program {
         ensures { MatchResult result (λ p. bytes_of (instructions_of p) ≡ bytes.now) (λ e. Unread bytes.now e) }
     {
         let mut instructions = Vec::new(heap);
-        let mut rest = bytes;
-        while !rest.is_empty() {
+        for row in bytes.chunks(8) {
             let place = instructions.len();
             if place >= LONGEST {
-                return Err(ReadError::Unreadable(Unreadable::TooMany));
+                return Err(Unreadable::TooMany.into());
             }
-            if rest.len() < 8 {
-                return Err(ReadError::Unreadable(Unreadable::CutShort { place }));
+            if row.len() < 8 {
+                return Err(Unreadable::CutShort { place }.into());
             }
-            let (row, after) = rest.split_at(8);
-            let Some(instruction) = Instruction::decode(row) else {
-                return Err(ReadError::Unreadable(Unreadable::NoInstruction { place }));
+            let Ok(instruction) = Instruction::try_from(row) else {
+                return Err(Unreadable::NoInstruction { place }.into());
             };
             instructions.push(instruction)?;
-            rest = after;
         }
         Ok(Program { instructions })
     }
@@ -38,9 +35,9 @@ impl Program {
         ensures { IfOk result (λ v. v.items ≡ bytes_of (instructions_of self.now)) }
     {
         let mut bytes = Vec::new(heap);
-        let instructions = self.as_slice();
-        for instruction in instructions {
-            bytes.extend_from_slice(&instruction.encode())?;
+        // Kept: a loop, since a `flat_map` of arrays is no shorter and would need a proof by hand.
+        for instruction in self.as_slice() {
+            bytes.extend_from_slice(&<[u8; 8]>::from(*instruction))?;
         }
         Ok(bytes)
     }

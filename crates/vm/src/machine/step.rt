@@ -1,6 +1,6 @@
 // One instruction.
 ghost use Rattle.std.specs.Prelude.{◌≡◌, ◌<◌, not};
-ghost use Rattle.vm.specs.Step.{get, put, byte_at, stored, compared, execute, ends_turn};
+ghost use Rattle.vm.specs.Step.{get, put, byte_at, stored, execute, ends_turn};
 
 use crate::machine::Machine;
 use bytecode::instruction::Instruction;
@@ -13,7 +13,7 @@ impl Machine {
         self.registers[r.number as usize]
     }
 
-    fn put(&mut self, register: Register, value: u32)
+    pub(crate) fn put(&mut self, register: Register, value: u32)
         ensures { self.new ≡ put register value self.old }
     {
         self.registers[register.number as usize] = value;
@@ -32,14 +32,9 @@ impl Machine {
         self.memory[(address % 256) as usize] = byte;
     }
 
-    fn compare(&mut self, x: u32, y: u32)
-        ensures { self.new ≡ compared x y self.old }
-    {
-        self.less = x < y;
-        self.equal = x == y;
-    }
-
     // Does an instruction, unless it ends the turn: then the machine stays, and the answer is false.
+    // Kept: a flag, since a caller asks only whether to go on; a `ControlFlow` says no more.
+    #[inline(always)]
     pub(crate) fn step(&mut self, instruction: Instruction) -> bool
         requires { self.old.counter < 1024 }
         ensures after { self.new ≡ execute instruction self.old }
@@ -49,24 +44,24 @@ impl Machine {
             Instruction::Const(a, n) => self.put(a, n),
             Instruction::Move(a, b) => self.put(a, self.get(b)),
             Instruction::Add(a, b, c) => self.put(a, self.get(b).wrapping_add(self.get(c))),
-            Instruction::Compare(a, b) => self.compare(self.get(a), self.get(b)),
+            Instruction::Compare(a, b) => self.found = self.get(a).cmp(&self.get(b)),
             Instruction::Jump(to) => {
                 self.counter = to;
                 return true;
             }
             Instruction::JumpLess(to) => {
-                if self.less {
+                if self.found.is_lt() {
                     self.counter = to;
                     return true;
                 }
             }
             Instruction::JumpEqual(to) => {
-                if self.equal {
+                if self.found.is_eq() {
                     self.counter = to;
                     return true;
                 }
             }
-            Instruction::Load(a, b) => self.put(a, self.load(self.get(b)) as u32),
+            Instruction::Load(a, b) => self.put(a, u32::from(self.load(self.get(b)))),
             Instruction::Store(a, b) => self.store(self.get(b), (self.get(a) % 256) as u8),
             Instruction::Read(..)
             | Instruction::Write(..)

@@ -1,29 +1,19 @@
 // A turn: instruction by instruction to the one that ends it.
-ghost use Rattle.std.specs.Prelude.{◌≡◌, ◌<◌, ◌≤◌, length, MatchOption};
+ghost use Rattle.std.specs.Prelude.{◌≡◌};
 ghost use Rattle.programs.specs.Actions.{action};
-ghost use Rattle.std.specs.List.{slice_get};
 ghost use Rattle.vm.specs.Turn.{fresh, runs};
 ghost use Rattle.vm.specs.Ends.{asks_in, resumed};
 
+use crate::code::Code;
 use crate::machine::Machine;
-use crate::machine::action::IMPOSSIBLE;
-use bytecode::instruction::Instruction;
 use programs::programs::Action;
+use std::cmp::Ordering;
 
 // A turn has at most so many instructions.
 const MOST: u16 = 10000;
 
-// The instruction at a place, if that is in the row.
-fn fetch(code: &[Instruction], place: u32) -> Option<Instruction>
-    ensures value { result ≡ slice_get code.now place }
-    ensures within { MatchOption result (length code.now ≤ place) (λ _. place < length code.now) }
-{
-    let place = place as usize;
-    if place >= code.len() {
-        return None;
-    }
-    Some(code[place])
-}
+// With this a program ends that asks for what cannot be.
+const IMPOSSIBLE: u16 = 255;
 
 impl Machine {
     // A machine before its first instruction.
@@ -34,60 +24,49 @@ impl Machine {
             registers: [0; 16],
             memory: [0; 256],
             counter: 0,
-            less: false,
-            equal: false,
+            found: Ordering::Greater,
         }
     }
 
     // A program's machine in its first turn, at the instruction that ends it.
-    pub(crate) fn started(code: &[Instruction]) -> Machine
-        requires { length code.now ≤ 1024 }
-        ensures { result ≡ runs 9999 code.now fresh }
+    pub(crate) fn started(code: Code<'_>) -> Machine
+        ensures { result ≡ runs 9999 code.entry.instructions.now fresh }
     {
         let mut machine = Machine::new();
-        machine.run(code, MOST - 1);
+        machine.run(code);
         machine
     }
 
-    // Runs to an instruction that ends the turn, or as many as the turn has left.
-    fn run(&mut self, code: &[Instruction], mut left: u16)
-        requires { length code.now ≤ 1024 }
-        ensures { self.new ≡ runs left code.now self.old }
+    // Runs to an instruction that ends the turn, or to the last that the turn may have.
+    fn run(&mut self, code: Code<'_>)
+        ensures { self.new ≡ runs 9999 code.entry.instructions.now self.old }
     {
-        while left > 0 {
-            let place = self.counter as usize;
-            if place >= code.len() {
+        for _done in 1..MOST {
+            let Some(instruction) = code.at(self.counter) else {
+                return;
+            };
+            if !self.step(instruction) {
                 return;
             }
-            if !self.step(code[place]) {
-                return;
-            }
-            left -= 1;
         }
     }
 
     // What the program asks for where the machine stands.
-    pub(crate) fn ask(&self, code: &[Instruction]) -> Action
-        ensures { action result ≡ asks_in code.now self.now }
+    pub(crate) fn ask(&self, code: Code<'_>) -> Action
+        ensures { action result ≡ asks_in code.entry.instructions.now self.now }
     {
-        match fetch(code, self.counter) {
-            Some(instruction) => self.asks(instruction),
-            None => Action::End(IMPOSSIBLE),
-        }
+        code.at(self.counter)
+            .and_then(|instruction| self.asks(instruction))
+            .unwrap_or_else(|| Action::End(IMPOSSIBLE))
     }
 
     // A turn, once what was asked for was done: told what was read and whether no more will come.
-    pub(crate) fn resume(&mut self, code: &[Instruction], bytes: &[u8], eof: bool)
-        requires { length code.now ≤ 1024 }
-        ensures { self.new ≡ resumed code.now bytes.now eof self.old }
+    pub(crate) fn resume(&mut self, code: Code<'_>, bytes: &[u8], eof: bool)
+        ensures { self.new ≡ resumed code.entry.instructions.now bytes.now eof self.old }
     {
-        let Some(instruction) = fetch(code, self.counter) else {
-            return;
-        };
-        if self.complete(instruction, bytes, eof) {
-            self.run(code, MOST - 1);
-        } else {
-            self.run(code, MOST);
+        if let Some(instruction) = code.at(self.counter) {
+            self.complete(instruction, bytes, eof);
         }
+        self.run(code);
     }
 }

@@ -1,14 +1,16 @@
 // A table, and one more command in it.
 ghost use Rattle.std.specs.Prelude.{◌≡◌, ℕ, []};
+ghost use Rattle.vm.specs.declared.table.add.NotAdded.TheVariants as why;
 ghost use Rattle.vm.specs.Commands.{listed_of};
 ghost use Rattle.vm.specs.Adding.{Added};
 
-use crate::table::{Listed, MOST, Table};
+use crate::table::{MOST, Table};
 use bytecode::program::Program;
-use std::alloc::Global;
+use std::alloc::{AllocFailed, Global};
+use std::collections::BTreeMap;
 
 // Why a command was not added.
-#[derive(Clone, Copy)]
+#[derive(Clone, Copy, PartialEq, Eq, Debug)]
 pub enum NotAdded {
     // it has a program
     Taken,
@@ -17,12 +19,20 @@ pub enum NotAdded {
     NoMemory,
 }
 
+impl<T: Drop> From<AllocFailed<T>> for NotAdded {
+    ghost from_gives = { λ _ r. r ≡ why.NoMemory };
+
+    fn from(_refused: AllocFailed<T>) -> NotAdded {
+        NotAdded::NoMemory
+    }
+}
+
 impl Table {
     pub fn new(heap: Global) -> Table
         ensures { listed_of result ≡ [] }
     {
         Table {
-            all: Vec::new(heap),
+            programs: BTreeMap::new(heap),
         }
     }
 
@@ -33,12 +43,10 @@ impl Table {
         if self.find(command).is_some() {
             return Err(NotAdded::Taken);
         }
-        if self.all.len() >= MOST {
+        if self.programs.len() >= MOST {
             return Err(NotAdded::Full);
         }
-        if self.all.push(Listed { command, program }).is_err() {
-            return Err(NotAdded::NoMemory);
-        }
+        self.programs.insert(command, program)?;
         Ok(())
     }
 }

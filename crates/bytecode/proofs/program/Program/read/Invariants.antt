@@ -1,9 +1,12 @@
-use Rattle.std.proofs.Common.{◌≡◌, ◌≤◌, ◌++◌, length, vec_items, vec_len}
+use Rattle.std.proofs.Common.{◌≡◌, ◌≤◌, ◌++◌, vec_items, vec_len}
+use Rattle.std.specs.Slice.Iter.{chunks_rest, chunks_size}
 use Rattle.bytecode.specs.Encoding.{bytes_of}
 use Rattle.bytecode.proofs.program.Program.read.Given as goal
 
-abbrev pub invariant-loop-rest : goal.invariant-loop-rest
-invariant-loop-rest l = (vec_len l.instructions ≤ 1024) × (bytes_of (vec_items l.instructions) ++ l.rest ≡ l.bytes)
-
-abbrev pub decreases-loop-rest : goal.decreases-loop-rest
-decreases-loop-rest l = length l.rest
+abbrev pub invariant-loop-row : goal.invariant-loop-row
+invariant-loop-row l =
+    (goal.iterator-loop-row).can_next l.row-iterator ×
+    (goal.iterator-loop-row).is_finite l.row-iterator ×
+    (chunks_size l.row-iterator ≡ 8) ×
+    (vec_len l.instructions ≤ 1024) ×
+    (bytes_of (vec_items l.instructions) ++ chunks_rest l.row-iterator ≡ l.bytes)

@@ -1,18 +1,15 @@
+use Rattle.std.proofs.Common.{sym, arith}
 use Rattle.vm.proofs.Runs.{ran-all, ran_out, ran-stop, ran-more}
 use Rattle.vm.proofs.machine.Machine.run.Goals as goal
 
-pub returns-then-place-code : goal.returns-then-place-code
-returns-then-place-code c = ran_out c.loop-left.left c.args.code.now c.loop-left.self _ c.if-place-code.true c.loop-left.invariant
+pub returns-in_default : goal.returns-in_default
+returns-in_default c = ran_out _ _ _ _ (sym c.in_default.ensures.value) c.loop-done.invariant
 
 pub returns-then-not-step : goal.returns-then-not-step
-returns-then-not-step c =
-    ran-stop c.loop-left.left c.args.code.now c.loop-left.self _ c.index-code-place.result c.if-place-code.false c.index-code-place.is
-    _ c.step.result c.step.ensures.after c.step.ensures.goes c.if-not-step.true c.loop-left.invariant
+returns-then-not-step c = ran-stop _ _ _ _ _ (sym c.in-Some.ensures.value) _ _ c.step.ensures.after c.step.ensures.goes c.loop-done.invariant c.if-not-step.true
 
-pub loop-left-preserved : goal.loop-left-preserved
-loop-left-preserved c =
-    ran-more c.loop-left.left c.args.code.now c.loop-left.self _ c.index-code-place.result c.if-place-code.false c.index-code-place.is
-    _ c.step.result c.step.ensures.after c.step.ensures.goes c.if-not-step.false c.loop-left-test.true c.loop-left.invariant
+pub loop-done-preserved : goal.loop-done-preserved
+loop-done-preserved c = ran-more _ _ _ _ _ (sym c.in-Some.ensures.value) _ _ c.step.ensures.after c.step.ensures.goes c.loop-done.invariant _ (omega arith) c.if-not-step.false
 
 pub returns : goal.returns
-returns c = ran-all c.loop-left.left c.args.code.now c.loop-left.self _ c.loop-left-test.false c.loop-left.invariant
+returns c = ran-all _ _ _ _ (omega arith) c.loop-done.invariant
