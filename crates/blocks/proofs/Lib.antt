@@ -1,2 +1,2 @@
-pub mod Bit
 pub mod Member
+pub mod Chains

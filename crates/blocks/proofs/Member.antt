@@ -1,57 +1,10 @@
 -- What is in a set after a change.
-use Rattle.std.proofs.Common.{◌≡◌, ℕ, zero, suc, ◌+◌, ◌-◌, ◌/◌, ◌%◌, ◌^◌, ◌<◌, ◌≤◌, min, Bool, true, false, cond, not, ◌&&◌, ◌||◌, eqb, ltb, ◌⊎◌, List, length, get_or, set, replicate, Some, None, sym, refl, ap, ◌∙◌, subst, inl, inr, ⊎_elim, add-one, arith}
-use lib.Bits.{bit_or}
-use Rattle.std.proofs.lemmas.List.{get_or-set_same, get_or-set_other, length-set, length-replicate, get_or-replicate, get_or_past}
-use Rattle.std.proofs.lemmas.Bool.{cases_eq, cases_lt, cases_order, eq-eqb, ne_eqb, eqb-true, both_ways, not-true, ltb-true, ltb-false, cases_Bool, lt-ltb, le-ltb}
+use Rattle.std.proofs.Common.{◌≡◌, ℕ, zero, suc, ◌+◌, ◌<◌, ◌≤◌, min, Bool, true, false, cond, not, ◌&&◌, ◌||◌, eqb, ltb, ◌⊎◌, List, length, Some, None, sym, refl, ap, ◌∙◌, subst, inl, inr, ⊎_elim, add-one, arith}
+use Rattle.std.proofs.lemmas.List.{length-replicate}
+use Rattle.std.proofs.lemmas.Bool.{cases_order, eq-eqb, ne_eqb, eqb-true, both_ways, not-true, ltb-true, ltb-false, cases_Bool, lt-ltb, le-ltb}
 use Rattle.std.proofs.lemmas.Bool.Decides.{nat_tests}
 use Rattle.blocks.specs.Sets.{has, with, none, tally, first, is_free, lowest}
-use Rattle.blocks.proofs.Bit.{bit, or-bit, max-eqb, bit-pow}
-
-or-has : (x y i : ℕ) → eqb (bit (bit_or x y) i) 1 ≡ (eqb (bit x i) 1 || eqb (bit y i) 1)
-or-has x y i = ap (λ (n : ℕ). eqb n 1) (or-bit x y i) ∙ max-eqb (bit x i) (bit y i) (omega arith) (omega arith)
-
--- a set each of whose bytes is that of two others
-pub has-union : (s t u : List ℕ) (k : ℕ) → get_or u (k / 8) 0 ≡ bit_or (get_or s (k / 8) 0) (get_or t (k / 8) 0) → has u k ≡ (has s k || has t k)
-unfolding has
-has-union s t u k e = ap (λ (n : ℕ). eqb (bit n (k % 8)) 1) e ∙ or-has (get_or s (k / 8) 0) (get_or t (k / 8) 0) (k % 8)
-
-or_comm : (a b : Bool) → (a || b) ≡ (b || a)
-or_comm true true = refl
-or_comm true false = refl
-or_comm false true = refl
-or_comm false false = refl
-
-pub has-with : (s : List ℕ) (k j : ℕ) → k / 8 < length s → has (with s k) j ≡ (eqb j k || has s j)
-unfolding has with
-has-with s k j h =
-    ⊎_elim
-    (λ e.
-    let new : ℕ = bit_or (get_or s (k / 8) 0) (2 ^ (k % 8)) in
-    let a : get_or (set s (k / 8) new) (j / 8) 0 ≡ new = ap (λ (i : ℕ). get_or (set s (k / 8) new) i 0) e ∙ get_or-set_same s (k / 8) new 0 h in
-    let b : eqb (j % 8) (k % 8) ≡ eqb j k = grind (arith, nat_tests) in
-    ap (λ (n : ℕ). eqb (bit n (j % 8)) 1) a ∙ or-has (get_or s (k / 8) 0) (2 ^ (k % 8)) (j % 8)
-    ∙ ap (λ (v : Bool). eqb (bit (get_or s (k / 8) 0) (j % 8)) 1 || v) (bit-pow (k % 8) (j % 8) ∙ b)
-    ∙ ap (λ (i : ℕ). eqb (bit (get_or s i 0) (j % 8)) 1 || eqb j k) (sym e)
-    ∙ or_comm (eqb (bit (get_or s (j / 8) 0) (j % 8)) 1) (eqb j k))
-    (λ ne.
-    let f : eqb j k ≡ false = ne_eqb j k (λ e. ne (ap (λ (i : ℕ). i / 8) e)) in
-    ap (λ (n : ℕ). eqb (bit n (j % 8)) 1) (get_or-set_other s (k / 8) (j / 8) (bit_or (get_or s (k / 8) 0) (2 ^ (k % 8))) 0 ne)
-    ∙ ap (λ (v : Bool). v || eqb (bit (get_or s (j / 8) 0) (j % 8)) 1) (sym f))
-    (cases_eq (j / 8) (k / 8))
-
-pub length-with : (s : List ℕ) (k : ℕ) → length (with s k) ≡ length s
-unfolding with
-length-with s k = length-set s (k / 8) _
-
-zero_bit : (i : ℕ) → eqb (bit 0 i) 1 ≡ false
-zero_bit i = ne_eqb (bit 0 i) 1 (λ e. omega arith)
-
-zeros : (n i : ℕ) → get_or {A = ℕ} (replicate n 0) i 0 ≡ 0
-zeros n i = ⊎_elim (λ h. get_or-replicate n i 0 0 h) (λ h. get_or_past (replicate n 0) i 0 (let e : length {A = ℕ} (replicate n 0) ≡ n = length-replicate n 0 in omega arith)) (cases_lt i n)
-
-pub has-none : (k : ℕ) → has none k ≡ false
-unfolding has
-has-none k = ap (λ (n : ℕ). eqb (bit n (k % 8)) 1) (zeros 256 (k / 8)) ∙ zero_bit (k % 8)
+pub use Rattle.bits.proofs.Member.{has-with, length-with, has-none}
 
 -- tests that agree below n
 abbrev pub Alike : (ℕ → Bool) → (ℕ → Bool) → ℕ → Type 0
@@ -115,7 +68,7 @@ free_step u n b false y s l h q t k = weaken u n b (k t)
 
 pub lowest-free : (u : ℕ → Bool) (m n : ℕ) → n ≤ 2048 → (b : ℕ) → has (lowest u m n) b ≡ true → Free u n b
 unfolding lowest
-lowest-free u m zero h b e = absurd (both_ways _ (has-none b) e)
+lowest-free u m zero h b e = absurd (both_ways _ (has-none 256 b) e)
 lowest-free u m (suc n) h b e =
     free_step u n b (is_free u n) (ltb (tally (is_free u) n) m) (lowest u m n) (length-lowest u m n) h refl e (lowest-free u m n (omega arith) b)
 
@@ -167,16 +120,6 @@ lowest-zero u m = refl
 pub lowest-more : (u : ℕ → Bool) (m n : ℕ) → lowest u m (n + 1) ≡ cond (is_free u n && ltb (tally (is_free u) n) m) (with (lowest u m n) n) (lowest u m n)
 unfolding lowest
 lowest-more u m n = ap (lowest u m) (add-one n)
-
-pub first_more : (p : ℕ → Bool) (end k : ℕ) → k < end → first p (end - k) k ≡ cond (p k) (Some k) (first p (end - (k + 1)) (k + 1))
-unfolding first
-first_more p end k h =
-    let e : end - k ≡ suc (end - (k + 1)) = omega arith in
-    ap (λ (n : ℕ). first p n k) e ∙ ap (λ (j : ℕ). cond (p k) (Some k) (first p (end - (k + 1)) j)) (sym (add-one k))
-
-pub first-none : (p : ℕ → Bool) (end k : ℕ) → end ≤ k → first p (end - k) k ≡ None
-unfolding first
-first-none p end k h = let e : end - k ≡ 0 = omega arith in ap (λ (n : ℕ). first p n k) e
 
 -- what is found: it passes, it lies in between, and none before it does
 pub record Found (p : ℕ → Bool) (n k b : ℕ) : Type 0 where
@@ -236,9 +179,3 @@ tally-yes p n e = tally-more p n ∙ ap (λ (b : Bool). tally p n + cond b 1 0) 
 
 pub tally-no : (p : ℕ → Bool) (n : ℕ) → p n ≡ false → tally p (n + 1) ≡ tally p n
 tally-no p n e = tally-more p n ∙ ap (λ (b : Bool). tally p n + cond b 1 0) e ∙ omega arith
-
-pub first-yes : (p : ℕ → Bool) (end k : ℕ) → k < end → p k ≡ true → first p (end - k) k ≡ Some k
-first-yes p end k h e = first_more p end k h ∙ ap (λ (b : Bool). cond b (Some k) (first p (end - (k + 1)) (k + 1))) e
-
-pub first-no : (p : ℕ → Bool) (end k : ℕ) → k < end → p k ≡ false → first p (end - k) k ≡ first p (end - (k + 1)) (k + 1)
-first-no p end k h e = first_more p end k h ∙ ap (λ (b : Bool). cond b (Some k) (first p (end - (k + 1)) (k + 1))) e

@@ -1,1 +1,2 @@
 pub mod Sets
+pub use Rattle.bits.specs.Bits

@@ -1,16 +1,10 @@
 -- A set of block numbers below 2,048 as 256 bytes, one bit a number. Assumes nothing.
-use Rattle.std.specs.Prelude.{ℕ, zero, suc, ◌+◌, ◌/◌, ◌%◌, ◌^◌, Bool, cond, not, ◌&&◌, List, replicate, Some, None, Option, ◌==◌, bit_or, nat_lt, slice_index, slice_set}
-
--- whether a number is in a set
-unfoldable pub has : List ℕ → ℕ → Bool
-has s k = slice_index s (k / 8) / 2 ^ (k % 8) % 2 == 1
+use Rattle.std.specs.Prelude.{ℕ, zero, suc, ◌+◌, Bool, cond, not, ◌&&◌, List, replicate, Some, None, Option, nat_lt}
+-- whether a number is in a set; with one more number
+unfoldable pub use Rattle.bits.specs.Bits.{has, with}
 
 abbrev pub none : List ℕ
 none = replicate 256 0
-
--- with one more number
-unfoldable pub with : List ℕ → ℕ → List ℕ
-with s k = slice_set s (k / 8) (bit_or (slice_index s (k / 8)) (2 ^ (k % 8)))
 
 -- how many numbers below n pass a test
 unfoldable pub tally : (ℕ → Bool) → ℕ → ℕ

@@ -4,9 +4,12 @@
 ghost use Rattle.std.specs.Prelude.{◌≡◌, ℕ, ◌-◌, ◌<◌, ◌||◌, length, nat_le, if◌then◌else◌, Some, None};
 ghost use Rattle.blocks.specs.Sets.{has, with, none, tally, first, is_free, lowest};
 
+use std::array;
+
 // How many blocks there are.
 pub const BLOCKS: usize = 2048;
 
+// Kept: public bytes and no Model, since a record stands on the disk with them as they are.
 // The number k is in the set where bit k % 8 of byte k / 8 is 1.
 #[derive(Clone, Copy)]
 pub struct Set {
@@ -24,64 +27,54 @@ impl Set {
         requires { k < 2048 }
         ensures { result ≡ has self.now.bits k }
     {
-        (self.bits[k / 8] >> (k % 8)) % 2 == 1
+        bits::has(&self.bits, k)
     }
 
     pub fn insert(&mut self, k: usize)
         requires { k < 2048 }
         ensures { self.new.bits ≡ with self.old.bits k }
     {
-        self.bits[k / 8] |= 1 << (k % 8);
+        bits::insert(&mut self.bits, k);
+    }
+
+    // The set with one more number.
+    fn and(mut self, k: usize) -> Set
+        requires { k < 2048 }
+        ensures { result ≡ record { bits = with self.bits k } }
+    {
+        self.insert(k);
+        self
     }
 
     // Takes in all that another set has.
     pub fn join(&mut self, other: &Set)
         ensures { (k : ℕ) → k < 2048 → has self.new.bits k ≡ (has self.old.bits k || has other.now.bits k) }
     {
-        for i in 0..256usize {
-            self.bits[i] |= other.bits[i];
-        }
+        self.bits = array::from_fn(|i| self.bits[i] | other.bits[i]);
     }
 
     // How many numbers it has.
     pub fn count(&self) -> usize
         ensures { result ≡ tally (has self.now.bits) 2048 }
     {
-        let mut n = 0;
-        for k in 0..BLOCKS {
-            if self.has(k) {
-                n += 1;
-            }
-        }
-        n
+        (0..BLOCKS).filter(|k| self.has(*k)).count()
     }
 
     // The least number that it has from `from` on.
     pub fn next(&self, from: usize) -> Option<usize>
         ensures { result ≡ first (has self.now.bits) (2048 - from) from }
     {
-        for k in from..BLOCKS {
-            if self.has(k) {
-                return Some(k);
-            }
-        }
-        None
+        (from..BLOCKS).find(|k| self.has(*k))
     }
 
     // The `many` lowest numbers that it has not, if there are so many.
     pub fn lowest_free(&self, many: usize) -> Option<Set>
         ensures { result ≡ (if nat_le many (tally (is_free (has self.now.bits)) 2048) then Some (record { bits = lowest (has self.now.bits) many 2048 }) else None) }
     {
-        let mut taken = Set::empty();
-        let mut free = 0;
-        for k in 0..BLOCKS {
-            if !self.has(k) {
-                if free < many {
-                    taken.insert(k);
-                }
-                free += 1;
-            }
-        }
-        if many <= free { Some(taken) } else { None }
+        let taken = (0..BLOCKS)
+            .filter(|k| !self.has(*k))
+            .take(many)
+            .fold(Set::empty(), |taken, k| taken.and(k));
+        (taken.count() == many).then_some(taken)
     }
 }

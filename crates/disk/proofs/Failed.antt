@@ -2,32 +2,32 @@
 use Rattle.std.proofs.Common.{◌≡◌, ℕ, suc, ◌-◌, ◌<◌, Bool, true, false, cond, List, replicate, sym, ap, ◌∙◌, inl, inr, ⊎_elim, arith}
 use Rattle.record.specs.Records.{decode}
 use Rattle.record.proofs.Coding.{fresh}
-use Rattle.disk.specs.Disks.{Blocks, Torn, Written, Wrote}
+use Rattle.disk.specs.Disks.{Blocks, Meaning, Torn, Written, Wrote}
 use Rattle.disk.specs.Failures.{failing_wrote, failed_at, torn}
 use Rattle.disk.specs.declared.failing.Failing.{Failing}
 
-module _ {D : Type 0} (up : D → Bool) (wrote : D → ℕ → List ℕ → D) (s : Failing D) (b : ℕ) (x : List ℕ) where
-  pub f-down : s.up ≡ false → s ≡ failing_wrote up wrote s b x
+module _ {D : Type 0} (m : Meaning D) (s : Failing D) (b : ℕ) (x : List ℕ) where
+  pub f-down : s.up ≡ false → s ≡ failing_wrote m s b x
   unfolding failing_wrote
-  f-down e = sym (ap (λ (u : Bool). cond u (failed_at up wrote s.left s b x) s) e)
+  f-down e = sym (ap (λ (u : Bool). cond u (failed_at m s.left s b x) s) e)
 
-  pub f-up : s.up ≡ true → (n : ℕ) → s.left ≡ n → failed_at up wrote n s b x ≡ failing_wrote up wrote s b x
+  pub f-up : s.up ≡ true → (n : ℕ) → s.left ≡ n → failed_at m n s b x ≡ failing_wrote m s b x
   unfolding failing_wrote
-  f-up e n l = sym (ap (λ (u : Bool). cond u (failed_at up wrote s.left s b x) s) e ∙ ap (λ (m : ℕ). failed_at up wrote m s b x) l)
+  f-up e n l = sym (ap (λ (u : Bool). cond u (failed_at m s.left s b x) s) e ∙ ap (λ (k : ℕ). failed_at m k s b x) l)
 
-  pub f-more : (d : D) (u : Bool) → s.up ≡ true → 0 < s.left → d ≡ wrote s.disk b x → u ≡ up d
-      → record { disk = d; left = s.left - 1; leaves = s.leaves; up = u } ≡ failing_wrote up wrote s b x
+  pub f-more : (d : D) (u : Bool) → s.up ≡ true → 0 < s.left → d ≡ m.wrote s.disk b x → u ≡ m.up d
+      → record { disk = d; left = s.left - 1; leaves = s.leaves; up = u } ≡ failing_wrote m s b x
   f-more d u e h q v =
       let l : s.left ≡ suc (s.left - 1) = omega arith in
-      let w : u ≡ up (wrote s.disk b x) = v ∙ ap up q in
-      let a : record { disk = d; left = s.left - 1; leaves = s.leaves; up = u } ≡ failed_at up wrote (suc (s.left - 1)) s b x =
+      let w : u ≡ m.up (m.wrote s.disk b x) = v ∙ ap m.up q in
+      let a : record { disk = d; left = s.left - 1; leaves = s.leaves; up = u } ≡ failed_at m (suc (s.left - 1)) s b x =
       λ i. record { disk = q i; left = s.left - 1; leaves = s.leaves; up = w i } in
       a ∙ f-up e (suc (s.left - 1)) l
 
-  pub f-last : (d : D) → s.up ≡ true → s.left ≡ 0 → d ≡ torn up wrote s.leaves s.disk b x
-      → record { disk = d; left = s.left; leaves = s.leaves; up = false } ≡ failing_wrote up wrote s b x
+  pub f-last : (d : D) → s.up ≡ true → s.left ≡ 0 → d ≡ torn m s.leaves s.disk b x
+      → record { disk = d; left = s.left; leaves = s.leaves; up = false } ≡ failing_wrote m s b x
   f-last d e l q =
-      let a : record { disk = d; left = s.left; leaves = s.leaves; up = false } ≡ failed_at up wrote 0 s b x =
+      let a : record { disk = d; left = s.left; leaves = s.leaves; up = false } ≡ failed_at m 0 s b x =
       λ i. record { disk = q i; left = l i; leaves = s.leaves; up = false } in
       a ∙ f-up e 0 l
 

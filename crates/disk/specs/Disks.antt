@@ -6,6 +6,12 @@ use Rattle.record.specs.Records.{decode}
 abbrev pub Blocks : Type 0
 Blocks = ℕ → List ℕ
 
+-- what a disk is: what stands in each block, whether it still takes writes, and the disk after a write
+pub record Meaning (D : Type 0) : Type 0 where
+  pub block : D → Blocks
+  pub up : D → Bool
+  pub wrote : D → ℕ → List ℕ → D
+
 -- The one premise: a block in whose write the machine crashed has its old bytes, its new ones, or junk, in which no checksum fits, so that it holds no record.
 abbrev pub Torn : (old new y : List ℕ) → Type 0
 Torn old new y = (y ≡ old) ⊎ ((y ≡ new) ⊎ (decode y ≡ None))

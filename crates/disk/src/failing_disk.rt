@@ -1,6 +1,6 @@
 // A disk over another that crashes at a chosen write.
 ghost use Rattle.std.specs.Prelude.{◌≡◌, true};
-ghost use Rattle.disk.specs.Failures.{failing_wrote};
+ghost use Rattle.disk.specs.Failures.{failing};
 
 use crate::disk::{Crashed, Disk};
 use crate::failing::{Failing, Leaves};
@@ -19,11 +19,7 @@ pub fn crash_after<D>(disk: D, left: u64, leaves: Leaves) -> Failing<D>
 }
 
 impl<D: Disk> Disk for Failing<D> {
-    ghost block = { λ s. D.Disk.block s.disk };
-
-    ghost up = { λ s. s.up };
-
-    ghost wrote = { failing_wrote D.Disk.up D.Disk.wrote };
+    ghost meaning = { failing D.meaning };
 
     fn read(&self, b: usize) -> Block {
         self.disk.read(b)

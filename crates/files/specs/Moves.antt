@@ -1,17 +1,16 @@
 -- put and get turn by turn: what each reads, writes and does to the store. Assumes nothing.
 use Rattle.std.specs.Prelude.{ℕ, ◌+◌, ◌-◌, min, Bool, true, false, cond, ◌&&◌, List, ◌++◌, length, take, drop, replicate, is_some, Some, None, Ok, Err, Option, Result, ◌==◌, nat_le, nat_lt, slice_index, slice_set}
 use Rattle.model.specs.Files.{same}
-use Rattle.model.specs.Messages.{Does, Reads, Writes, Ends}
+use Rattle.model.specs.Messages.{Programs, Does, Reads, Writes, Ends}
 use Rattle.sha256.specs.Message.{SHA256, Be32, Bytes32}
 use Rattle.record.specs.Names.{name_of, is_name, named}
 use Rattle.record.specs.Records.{needed}
 use Rattle.record.specs.declared.name.Name.{Name}
-use Rattle.disk.specs.Disks.{Blocks}
+use Rattle.disk.specs.Disks.{Blocks, Meaning}
 use Rattle.opened.specs.Opened.{record_of, joined}
-use Rattle.store.specs.Leases.{lease, unused, put_place, put_set, with_lease}
-use Rattle.store.specs.Stores.{lease_bits, put_next, get_next, piece_at, wrote_answer, wrote_disk, prepared, commit_answer, commit_disk, commit_leases, get_answer, get_leases}
-use Rattle.store.specs.declared.lease.Lease.{Lease}
-use Rattle.store.specs.declared.lease.Lease.TheVariants.{Nothing, Put}
+use Rattle.store.specs.Leases.{Table, lease, unused, put_place, put_set, with_lease}
+use Rattle.store.specs.Stores.{lease_bits, put_next, get_next, piece_at, wrote_answer, wrote_disk, ready, commit_answer, commit_disk, commit_leases, get_answer, get_leases}
+use Rattle.store.specs.declared.lease.Lease.TheVariants.{Put}
 use Rattle.store.specs.declared.store.Store.{Store}
 use Rattle.store.specs.declared.store.Prepared.{Prepared}
 use Rattle.store.specs.declared.store.Piece.{Piece}
@@ -20,8 +19,9 @@ use Rattle.store.specs.declared.store.Unread.{Unread}
 use Rattle.store.specs.declared.store.Unread.TheVariants.{NoFile, NoPlace}
 use Rattle.store.specs.declared.store.Unwritten.{Unwritten}
 use Rattle.store.specs.declared.store.Refused.{Refused}
-use Rattle.files.specs.declared.transfer.Ended.{Ended}
-use Rattle.files.specs.declared.transfer.Ended.TheVariants.{Well, BadName, NoRoom, NotWhole}
+use Rattle.files.specs.declared.files.Files.{Files}
+use Rattle.files.specs.declared.transfer.Failure.{Failure}
+use Rattle.files.specs.declared.transfer.Failure.TheVariants.{BadName, NoRoom, NotWhole}
 use Rattle.files.specs.declared.transfer.Which.{Which}
 use Rattle.files.specs.declared.transfer.Which.TheVariants.{IsPut, IsGet}
 use Rattle.files.specs.declared.transfer.Putting.{Putting}
@@ -30,11 +30,16 @@ use Rattle.files.specs.declared.transfer.Transfer.{Transfer}
 use Rattle.files.specs.declared.transfer.Phase.{Phase}
 use Rattle.files.specs.declared.transfer.Phase.TheVariants.{NameLength, Naming, Sizing, Block, Digest, Head, Body, Tail, Over}
 
-abbrev pub status : Ended → ℕ
-status Well = 0
-status BadName = 9
-status NoRoom = 10
-status NotWhole = 11
+abbrev pub status : Result (Unit {0}) Failure → ℕ
+status (Ok x) = 0
+status (Err BadName) = 9
+status (Err NoRoom) = 10
+status (Err NotWhole) = 11
+
+-- the phase that a step comes to, or how it fails
+abbrev pub settled : Result Phase Failure → Phase
+settled (Ok a) = a
+settled (Err e) = Over (Err e)
 
 -- how many bytes a phase reads
 abbrev pub wanted : Phase → ℕ
@@ -69,16 +74,32 @@ abbrev pub begun_get : Getting → Reading
 begun_get g = record { place = g.place; size = g.size; from = 0; left = g.size }
 
 abbrev pub sized_phase : Name → ℕ → Option ℕ → Phase
-sized_phase name size None = Over NoRoom
+sized_phase name size None = Over (Err NoRoom)
 sized_phase name size (Some t) = to_come (begun_put name size t)
 
 abbrev pub length_phase : Which → ℕ → Phase
-length_phase w n = cond (nat_le 1 n && nat_le n 32) (Naming w n) (Over BadName)
+length_phase w n = cond (nat_le 1 n && nat_le n 32) (Naming w n) (Over (Err BadName))
+
+-- a get of a name that has no file, or that finds no place
+abbrev pub unread : Unread → Failure
+unread NoFile = BadName
+unread NoPlace = NoRoom
 
 abbrev pub gotten_phase : Result Getting Unread → Phase
 gotten_phase (Ok g) = Head (begun_get g)
-gotten_phase (Err NoFile) = Over BadName
-gotten_phase (Err NoPlace) = Over NoRoom
+gotten_phase (Err u) = Over (Err (unread u))
+
+-- the place in the store's table that a phase has
+abbrev pub place_of : Phase → Option ℕ
+place_of (NameLength w) = None
+place_of (Naming w n) = None
+place_of (Sizing name) = None
+place_of (Block p) = Some p.place
+place_of (Digest p) = Some p.place
+place_of (Head r) = Some r.place
+place_of (Body r) = Some r.place
+place_of (Tail r) = Some r.place
+place_of (Over e) = None
 
 abbrev pub started : Which → Transfer
 started w = record { phase = NameLength w; have = replicate 512 0; count = 0 }
@@ -87,7 +108,7 @@ started w = record { phase = NameLength w; have = replicate 512 0; count = 0 }
 abbrev pub filled : Transfer → List ℕ → List ℕ
 filled t bs = take t.count t.have ++ (bs ++ drop (t.count + length bs) t.have)
 
-module _ {D : Type 0} (block : D → Blocks) (up : D → Bool) (wrote : D → ℕ → List ℕ → D) where
+module _ {D : Type 0} (m : Meaning D) where
   -- the phase after a turn, and the store
   pub record Moved : Type 0 where
     pub phase : Phase
@@ -96,14 +117,14 @@ module _ {D : Type 0} (block : D → Blocks) (up : D → Bool) (wrote : D → �
   abbrev pub moved : Phase → Store D → Moved
   moved a s = record { phase = a; store = s }
 
-  abbrev pub stored : D → List Lease → Store D
+  abbrev pub stored : D → Table → Store D
   stored d ls = record { disk = d; leases = ls }
 
   abbrev pub released : Store D → ℕ → Store D
-  released s t = stored s.disk (slice_set s.leases t Nothing)
+  released s t = stored s.disk (slice_set s.leases t None)
 
   abbrev pub files : Store D → Blocks
-  files s = block s.disk
+  files s = m.block s.disk
 
   -- A get keeps the blocks of the file that its name has now.
   abbrev pub getting : Store D → Name → Moved
@@ -112,7 +133,7 @@ module _ {D : Type 0} (block : D → Blocks) (up : D → Bool) (wrote : D → �
       (stored s.disk (get_leases s.leases (record_of (files s) (name_of n)) (unused s.leases)))
 
   abbrev pub named_as : Store D → Which → List ℕ → Bool → Moved
-  named_as s w bs false = moved (Over BadName) s
+  named_as s w bs false = moved (Over (Err BadName)) s
   named_as s IsPut bs true = moved (Sizing (named bs)) s
   named_as s IsGet bs true = getting s (named bs)
 
@@ -120,50 +141,50 @@ module _ {D : Type 0} (block : D → Blocks) (up : D → Bool) (wrote : D → �
   abbrev pub sized : Store D → Name → ℕ → Moved
   sized s name size =
       moved (sized_phase name size (put_place (files s) s.leases (needed size)))
-      (stored s.disk (with_lease s.leases (put_place (files s) s.leases (needed size)) (Put (put_set (files s) s.leases (needed size)))))
+      (stored s.disk (with_lease s.leases (put_place (files s) s.leases (needed size)) (Some (Put (put_set (files s) s.leases (needed size))))))
 
   -- It writes a block as it comes.
   abbrev pub blocked_by : Store D → Putting → Result ℕ Unwritten → Moved
   blocked_by s p (Ok next) = moved (to_come (after_block p next)) s
-  blocked_by s p (Err e) = moved (Over NoRoom) (released s p.place)
+  blocked_by s p (Err e) = moved (Over (Err NoRoom)) (released s p.place)
 
   abbrev pub next_of : Store D → Putting → Option ℕ
   next_of s p = put_next (lease s.leases p.place) p.from
 
   abbrev pub blocked : Store D → Putting → List ℕ → Moved
   blocked s p x =
-      blocked_by (stored (wrote_disk wrote s.disk (next_of s p) x) s.leases) p (wrote_answer (next_of s p) (up (wrote_disk wrote s.disk (next_of s p) x)))
+      blocked_by (stored (wrote_disk m s.disk (next_of s p) x) s.leases) p (wrote_answer (next_of s p) (m.up (wrote_disk m s.disk (next_of s p) x)))
 
   -- All has come: it commits if its name has room and the digest fits.
-  abbrev pub ready : Store D → Putting → Option Prepared
-  ready s p = prepared (files s) (lease s.leases p.place) p.name p.size
+  abbrev pub to_commit : Store D → Putting → Option Prepared
+  to_commit s p = ready m s p.place p.name p.size
 
   abbrev pub committed_by : Store D → ℕ → Result (Unit {0}) Refused → Moved
-  committed_by s t (Ok x) = moved (Over Well) s
-  committed_by s t (Err e) = moved (Over NoRoom) (released s t)
+  committed_by s t (Ok x) = moved (Over (Ok tt)) s
+  committed_by s t (Err e) = moved (Over (Err NoRoom)) (released s t)
 
   abbrev pub committed : Store D → Putting → Moved
   committed s p =
-      committed_by (stored (commit_disk wrote s.disk (ready s p)) (commit_leases s.leases p.place (ready s p) (up (commit_disk wrote s.disk (ready s p))))) p.place
-      (commit_answer (ready s p) (up (commit_disk wrote s.disk (ready s p))))
+      committed_by (stored (commit_disk m s.disk (to_commit s p)) (commit_leases s.leases p.place (to_commit s p) (m.up (commit_disk m s.disk (to_commit s p))))) p.place
+      (commit_answer (to_commit s p) (m.up (commit_disk m s.disk (to_commit s p))))
 
   abbrev pub digest_in : Store D → ℕ → ℕ → List ℕ
   digest_in s t size = SHA256 (take size (joined (files s) (lease_bits (lease s.leases t)) 2048))
 
   abbrev pub closed_by : Store D → Putting → Bool → Bool → Moved
-  closed_by s p false fits = moved (Over NoRoom) (released s p.place)
-  closed_by s p true false = moved (Over NotWhole) (released s p.place)
+  closed_by s p false fits = moved (Over (Err NoRoom)) (released s p.place)
+  closed_by s p true false = moved (Over (Err NotWhole)) (released s p.place)
   closed_by s p true true = committed s p
 
   abbrev pub closed : Store D → Putting → List ℕ → Moved
-  closed s p digest = closed_by s p (is_some (ready s p)) (same (digest_in s p.place p.size) digest)
+  closed s p digest = closed_by s p (is_some (to_commit s p)) (same (digest_in s p.place p.size) digest)
 
   -- A get goes on to the next block.
   abbrev pub piece_of : Store D → Reading → Option Piece
   piece_of s r = piece_at (files s) (get_next (lease s.leases r.place) r.from)
 
   abbrev pub went_on : Store D → Reading → Option Piece → Moved
-  went_on s r None = moved (Over NoRoom) (released s r.place)
+  went_on s r None = moved (Over (Err NoRoom)) (released s r.place)
   went_on s r (Some x) = moved (to_write (after_piece r x.next)) s
 
   -- what a phase read has all come
@@ -175,20 +196,16 @@ module _ {D : Type 0} (block : D → Blocks) (up : D → Bool) (wrote : D → �
   came s (Digest p) have = closed s p (take 32 have)
   came s (Head r) have = moved (to_write r) s
   came s (Body r) have = went_on s r (piece_of s r)
-  came s (Tail r) have = moved (Over Well) (released s r.place)
+  came s (Tail r) have = moved (Over (Ok tt)) (released s r.place)
   came s (Over e) have = moved (Over e) s
 
   -- what it has under way is given up
+  abbrev pub given_up_at : Store D → Option ℕ → Store D
+  given_up_at s None = s
+  given_up_at s (Some t) = released s t
+
   abbrev pub given_up : Store D → Phase → Store D
-  given_up s (NameLength w) = s
-  given_up s (Naming w n) = s
-  given_up s (Sizing name) = s
-  given_up s (Block p) = released s p.place
-  given_up s (Digest p) = released s p.place
-  given_up s (Head r) = released s r.place
-  given_up s (Body r) = released s r.place
-  given_up s (Tail r) = released s r.place
-  given_up s (Over e) = s
+  given_up s a = given_up_at s (place_of a)
 
   -- a get that comes to its digest works it out
   abbrev pub have_in : Store D → Phase → List ℕ
@@ -210,7 +227,7 @@ module _ {D : Type 0} (block : D → Blocks) (up : D → Bool) (wrote : D → �
     pub store : Store D
 
   abbrev pub over : Store D → Transfer → Turned
-  over s t = record { state = entered (given_up s t.phase) (Over NotWhole); store = given_up s t.phase }
+  over s t = record { state = entered (given_up s t.phase) (Over (Err NotWhole)); store = given_up s t.phase }
 
   abbrev pub went_into : Moved → Turned
   went_into m = record { state = entered m.store m.phase; store = m.store }
@@ -240,3 +257,14 @@ module _ {D : Type 0} (block : D → Blocks) (up : D → Bool) (wrote : D → �
 -- command 254 is put, any other is get
 abbrev pub started_as : ℕ → Transfer
 started_as k = cond (k == 254) (started IsPut) (started IsGet)
+
+-- put and get as programs of the model, over a disk
+abbrev pub meant : {D : Type 0} → Meaning D → Programs Transfer (Files D)
+meant m =
+    record {
+      first = λ e k. started_as k;
+      does = λ e t. does_at m e.store t.phase t.have t.count;
+      next = λ e t bs eof. (turned m e.store t bs eof).state;
+      after = λ e t bs eof. record { store = (turned m e.store t bs eof).store };
+      release = λ e t. record { store = given_up m e.store t.phase };
+    }

@@ -1,5 +1,9 @@
 // What a put or a get is at.
+ghost use Rattle.std.specs.Prelude.{◌≡◌};
+ghost use Rattle.files.specs.Moves.{unread};
+
 use record::name::Name;
+use store::store::Unread;
 
 #[derive(Clone, Copy)]
 pub enum Which {
@@ -7,13 +11,24 @@ pub enum Which {
     IsGet,
 }
 
-// How it ends: all well; a bad name, or one that has no file; no room; a digest that does not fit, or input that ends early.
+// How it fails: a bad name, or one that has no file; no room; a digest that does not fit, or input that ends early.
 #[derive(Clone, Copy)]
-pub enum Ended {
-    Well,
+pub enum Failure {
     BadName,
     NoRoom,
     NotWhole,
+}
+
+// A get of a name that has no file, or that finds no place.
+impl From<Unread> for Failure {
+    ghost from_gives = { λ u e. e ≡ unread u };
+
+    fn from(unread: Unread) -> Failure {
+        match unread {
+            Unread::NoFile => Failure::BadName,
+            Unread::NoPlace => Failure::NoRoom,
+        }
+    }
 }
 
 // A put whose length is known. `place`: its place in the table; `from`: where its next block is looked for; `rest`: bytes to come.
@@ -47,7 +62,7 @@ pub enum Phase {
     Head(Reading),
     Body(Reading),
     Tail(Reading),
-    Over(Ended),
+    Over(Result<(), Failure>),
 }
 
 // `have`: what has come of what the phase reads, or the digest that a get writes; the first `count` count.

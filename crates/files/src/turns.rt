@@ -2,17 +2,16 @@
 ghost use Rattle.std.specs.Prelude.{◌≡◌, ◌+◌, ◌-◌, ◌≤◌, ◌++◌, length, replicate};
 ghost use Rattle.model.specs.Messages.{Reads, Writes};
 ghost use Rattle.programs.specs.Actions.{action};
-ghost use Rattle.files.specs.Moves.{wanted, started, started_as, filled, digest_in, have_in, entered, over, turned, writes_of, piece_of, does_at, status};
+ghost use Rattle.files.specs.Moves.{settled, started, started_as, filled, have_in, entered, over, turned, writes_of, piece_of, does_at, status};
 ghost use Rattle.files.specs.declared.transfer.Which.TheVariants.{IsPut};
 
-use crate::moves::{came, digest_at, give_up};
-use crate::transfer::{Ended, Phase, Reading, Transfer, Which};
+use crate::files::Files;
+use crate::transfer::{Failure, Phase, Reading, Transfer, Which};
 use disk::disk::Disk;
 use message::chunk::Chunk;
 use octets::put;
 use programs::programs::Action;
 use record::code::Block;
-use store::store::Store;
 
 // A digest at the front of a block.
 fn padded(digest: &[u8; 32]) -> Block
@@ -21,33 +20,6 @@ fn padded(digest: &[u8; 32]) -> Block
     let mut have = [0; 512];
     put(&mut have, 0, digest);
     have
-}
-
-fn have_in<D: Disk>(store: &Store<D>, phase: Phase) -> Block
-    ensures { result ≡ have_in D.Disk.block D.Disk.up D.Disk.wrote store.now phase }
-{
-    match phase {
-        Phase::NameLength(_) => [0; 512],
-        Phase::Naming(_, _) => [0; 512],
-        Phase::Sizing(_) => [0; 512],
-        Phase::Block(_) => [0; 512],
-        Phase::Digest(_) => [0; 512],
-        Phase::Head(_) => [0; 512],
-        Phase::Body(_) => [0; 512],
-        Phase::Tail(r) => padded(&digest_at(store, r.place, r.size)),
-        Phase::Over(_) => [0; 512],
-    }
-}
-
-// It comes to a phase, and has read nothing of it.
-fn enter<D: Disk>(store: &Store<D>, phase: Phase) -> Transfer
-    ensures { result ≡ entered D.Disk.block D.Disk.up D.Disk.wrote store.now phase }
-{
-    Transfer {
-        phase,
-        have: have_in(store, phase),
-        count: 0,
-    }
 }
 
 fn fill(t: Transfer, read: &[u8]) -> Block
@@ -59,40 +31,91 @@ fn fill(t: Transfer, read: &[u8]) -> Block
     have
 }
 
-// It ends early.
-fn end_early<D: Disk>(store: &mut Store<D>, t: Transfer) -> Transfer
-    ensures state { result ≡ (over D.Disk.block D.Disk.up D.Disk.wrote store.old t).state }
-    ensures store { store.new ≡ (over D.Disk.block D.Disk.up D.Disk.wrote store.old t).store }
-{
-    give_up(store, t.phase);
-    enter(store, Phase::Over(Ended::NotWhole))
+impl<D: Disk> Files<D> {
+    // A get that comes to its digest works it out.
+    fn have_in(&self, phase: Phase) -> Block
+        ensures { result ≡ have_in D.meaning self.now.store phase }
+    {
+        match phase {
+            Phase::Tail(r) => padded(&self.digest_at(r.place, r.size)),
+            _ => [0; 512],
+        }
+    }
+
+    // It comes to a phase, and has read nothing of it.
+    fn enter(&self, phase: Phase) -> Transfer
+        ensures { result ≡ entered D.meaning self.now.store phase }
+    {
+        Transfer {
+            phase,
+            have: self.have_in(phase),
+            count: 0,
+        }
+    }
+
+    // It ends early.
+    fn end_early(&mut self, t: Transfer) -> Transfer
+        ensures state { result ≡ (over D.meaning self.old.store t).state }
+        ensures store { self.new.store ≡ (over D.meaning self.old.store t).store }
+    {
+        self.give_up(t.phase);
+        self.enter(Phase::Over(Err(Failure::NotWhole)))
+    }
+
+    pub fn turn(&mut self, t: Transfer, read: &[u8], eof: bool) -> Transfer
+        ensures state { result ≡ (turned D.meaning self.old.store t read.now eof).state }
+        ensures store { self.new.store ≡ (turned D.meaning self.old.store t read.now eof).store }
+    {
+        if eof {
+            return self.end_early(t);
+        }
+        let want = t.phase.wanted();
+        if want < t.count {
+            return self.end_early(t);
+        }
+        if want - t.count < read.len() {
+            return self.end_early(t);
+        }
+        let have = fill(t, read);
+        let count = t.count + read.len();
+        if count < want {
+            return Transfer {
+                phase: t.phase,
+                have,
+                count,
+            };
+        }
+        let phase = settle(self.came(t.phase, &have));
+        self.enter(phase)
+    }
+
+    fn write_body(&self, r: Reading) -> Action
+        ensures { action result ≡ writes_of D.meaning r.left (piece_of D.meaning self.now.store r) }
+    {
+        match self.store.read(r.place, r.from) {
+            Some(piece) => written(&piece.bytes[0..512usize.min(r.left as usize)]),
+            None => Action::End(status_of(Err(Failure::NoRoom))),
+        }
+    }
+
+    pub fn ask(&self, t: &Transfer) -> Action
+        ensures { action result ≡ does_at D.meaning self.now.store t.now.phase t.now.have t.now.count }
+    {
+        match t.phase {
+            Phase::Head(r) => written(&r.size.to_be_bytes()),
+            Phase::Body(r) => self.write_body(r),
+            Phase::Tail(_) => written(&t.have[0..32]),
+            Phase::Over(outcome) => Action::End(status_of(outcome)),
+            _ => read_rest(t.phase.wanted(), t.count),
+        }
+    }
 }
 
-pub fn turn<D: Disk>(store: &mut Store<D>, t: Transfer, read: &[u8], eof: bool) -> Transfer
-    ensures state { result ≡ (turned D.Disk.block D.Disk.up D.Disk.wrote store.old t read.now eof).state }
-    ensures store { store.new ≡ (turned D.Disk.block D.Disk.up D.Disk.wrote store.old t read.now eof).store }
+// The phase that a step comes to: one that fails is over.
+fn settle(step: Result<Phase, Failure>) -> Phase
+    ensures { result ≡ settled step }
 {
-    if eof {
-        return end_early(store, t);
-    }
-    let want = t.phase.wanted();
-    if want < t.count {
-        return end_early(store, t);
-    }
-    if want - t.count < read.len() {
-        return end_early(store, t);
-    }
-    let have = fill(t, read);
-    let count = t.count + read.len();
-    if count < want {
-        return Transfer {
-            phase: t.phase,
-            have,
-            count,
-        };
-    }
-    let phase = came(store, t.phase, &have);
-    enter(store, phase)
+    step.unwrap_or_else(|failure| Phase::Over(Err(failure)))
 }
 
 fn started(which: Which) -> Transfer
@@ -126,23 +149,14 @@ fn written(bytes: &[u8]) -> Action
     }
 }
 
-fn write_body<D: Disk>(store: &Store<D>, r: Reading) -> Action
-    ensures { action result ≡ writes_of D.Disk.block D.Disk.up D.Disk.wrote r.left (piece_of D.Disk.block D.Disk.up D.Disk.wrote store.now r) }
+fn status_of(outcome: Result<(), Failure>) -> u16
+    ensures { result ≡ status outcome }
 {
-    match store.read(r.place, r.from) {
-        Some(piece) => written(&piece.bytes[0..512usize.min(r.left as usize)]),
-        None => Action::End(10),
-    }
-}
-
-fn status_of(e: Ended) -> u16
-    ensures { result ≡ status e }
-{
-    match e {
-        Ended::Well => 0,
-        Ended::BadName => 9,
-        Ended::NoRoom => 10,
-        Ended::NotWhole => 11,
+    match outcome {
+        Ok(()) => 0,
+        Err(Failure::BadName) => 9,
+        Err(Failure::NoRoom) => 10,
+        Err(Failure::NotWhole) => 11,
     }
 }
 
@@ -151,20 +165,4 @@ fn read_rest(want: usize, count: usize) -> Action
     ensures { action result ≡ Reads (want - count) }
 {
     Action::Read(want.saturating_sub(count) as u16)
-}
-
-pub fn ask<D: Disk>(store: &Store<D>, t: &Transfer) -> Action
-    ensures { action result ≡ does_at D.Disk.block D.Disk.up D.Disk.wrote store.now t.now.phase t.now.have t.now.count }
-{
-    match t.phase {
-        Phase::NameLength(_) => read_rest(1, t.count),
-        Phase::Naming(_, n) => read_rest(n as usize, t.count),
-        Phase::Sizing(_) => read_rest(4, t.count),
-        Phase::Block(p) => read_rest(512usize.min(p.rest as usize), t.count),
-        Phase::Digest(_) => read_rest(32, t.count),
-        Phase::Head(r) => written(&r.size.to_be_bytes()),
-        Phase::Body(r) => write_body(store, r),
-        Phase::Tail(_) => written(&t.have[0..32]),
-        Phase::Over(e) => Action::End(status_of(e)),
-    }
 }

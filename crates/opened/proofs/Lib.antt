@@ -1,3 +1,4 @@
 pub mod First
 pub mod Slots
 pub mod Kept
+pub mod Named

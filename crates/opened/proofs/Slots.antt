@@ -16,6 +16,16 @@ hold-second None b e = refl
 hold-second (Some x) None e = absurd (true≢false e)
 hold-second (Some x) (Some y) e = sym (ap (λ (v : Bool). cond v (Some y) (Some x)) (not-false (ltb x.count y.count) e))
 
+pub picks-first : (a b : Option Record) → first_holds a b ≡ true → holding a b ≡ a
+picks-first None b e = absurd (false≢true e)
+picks-first (Some x) None e = refl
+picks-first (Some x) (Some y) e = ap (λ (v : Bool). cond v (Some y) (Some x)) (not-true (ltb x.count y.count) e)
+
+pub picks-second : (a b : Option Record) → first_holds a b ≡ false → holding a b ≡ b
+picks-second None b e = refl
+picks-second (Some x) None e = absurd (true≢false e)
+picks-second (Some x) (Some y) e = ap (λ (v : Bool). cond v (Some y) (Some x)) (not-false (ltb x.count y.count) e)
+
 over_first : (x r : Record) → r.count ≡ suc x.count → holding (Some x) (Some r) ≡ Some r
 over_first x r e = ap (λ (v : Bool). cond v (Some r) (Some x)) (lt-ltb x.count r.count (omega arith))
 

@@ -1,10 +1,11 @@
 // Which files a disk holds: the records of its slots, and which blocks they have.
 #![tactic(auto)]
 
-ghost use Rattle.std.specs.Prelude.{◌≡◌, ℕ, ◌<◌, ◌||◌};
+ghost use Rattle.std.specs.Prelude.{◌≡◌, ℕ, ◌+◌, ◌*◌, ◌<◌};
 ghost use Rattle.blocks.specs.Sets.{has};
 ghost use Rattle.record.specs.Names.{name_of};
-ghost use Rattle.opened.specs.Opened.{holding, held, other_slot, first_holds, is_of, place, vacant, or_else, target, count_in, has_in, in_file, record_of};
+ghost use Rattle.record.specs.Records.{decode};
+ghost use Rattle.opened.specs.Opened.{held, other_slot, first_holds, is_of, place, vacant, or_else, target, in_file, record_of};
 
 use blocks::Set;
 use disk::disk::Disk;
@@ -14,6 +15,9 @@ use record::record::Record;
 // How many names may have a file.
 pub const NAMES: usize = 64;
 
+// The block at which data begins: the slots of all names stand before it.
+pub const DATA: usize = 2 * NAMES;
+
 // Where a put goes: `slot`, the block for its record, and `count`, that of the record that holds.
 #[derive(Clone, Copy)]
 pub struct Target {
@@ -21,71 +25,59 @@ pub struct Target {
     pub count: u64,
 }
 
-// Of two slots the one with the higher count holds, the first among equals.
-fn newer(a: Option<Record>, b: Option<Record>) -> Option<Record>
-    ensures { result ≡ holding a b }
+// The records in a pair of slots.
+fn pair<D: Disk>(disk: &D, i: usize) -> (Option<Record>, Option<Record>)
+    requires { i < 64 }
+    ensures first { result.0 ≡ decode (D.meaning.block disk.now (2 * i)) }
+    ensures second { result.1 ≡ decode (D.meaning.block disk.now (2 * i + 1)) }
 {
-    match (a, b) {
-        (None, b) => b,
-        (Some(x), None) => Some(x),
-        (Some(x), Some(y)) => { if x.count < y.count { Some(y) } else { Some(x) } }
-    }
+    let a = Record::decode(&disk.read(2 * i));
+    let b = Record::decode(&disk.read(2 * i + 1));
+    (a, b)
 }
 
+// Of two slots the one with the higher count holds, the first among equals.
 fn first_holds(a: Option<Record>, b: Option<Record>) -> bool
     ensures { result ≡ first_holds a b }
 {
-    match (a, b) {
-        (None, _) => false,
-        (Some(_), None) => true,
-        (Some(x), Some(y)) => !(x.count < y.count),
-    }
+    a.is_some_and(|x| b.is_none_or(|y| x.count >= y.count))
 }
 
 // The record that holds in a pair of slots.
 pub fn held<D: Disk>(disk: &D, i: usize) -> Option<Record>
     requires { i < 64 }
-    ensures { result ≡ held (D.Disk.block disk.now) i }
+    ensures { result ≡ held (D.meaning.block disk.now) i }
 {
-    let a = Record::decode(&disk.read(2 * i));
-    let b = Record::decode(&disk.read(2 * i + 1));
-    newer(a, b)
+    let (a, b) = pair(disk, i);
+    if first_holds(a, b) { a } else { b }
 }
 
 // The slot of a pair that does not hold.
 fn other_slot<D: Disk>(disk: &D, i: usize) -> usize
     requires { i < 64 }
-    ensures { result ≡ other_slot (D.Disk.block disk.now) i }
+    ensures { result ≡ other_slot (D.meaning.block disk.now) i }
 {
-    let a = Record::decode(&disk.read(2 * i));
-    let b = Record::decode(&disk.read(2 * i + 1));
+    let (a, b) = pair(disk, i);
     if first_holds(a, b) { 2 * i + 1 } else { 2 * i }
 }
 
-fn has_name(slot: &Option<Record>, name: &Name) -> bool
-    ensures { result ≡ is_of (name_of name.now) slot.now }
+#[tactic(auto, using(crate::proofs::Named::names))]
+fn has_name(slot: Option<Record>, name: &Name) -> bool
+    ensures { result ≡ is_of (name_of name.now) slot }
 {
-    match slot {
-        None => false,
-        Some(r) => r.name.is(name),
-    }
+    slot.is_some_and(|r| r.name == *name)
 }
 
 // The pair of slots whose record has that name.
 pub fn find<D: Disk>(disk: &D, name: &Name) -> Option<usize>
-    ensures { result ≡ place (D.Disk.block disk.now) (name_of name.now) }
+    ensures { result ≡ place (D.meaning.block disk.now) (name_of name.now) }
 {
-    for i in 0..NAMES {
-        if has_name(&held(disk, i), name) {
-            return Some(i);
-        }
-    }
-    None
+    (0..NAMES).find(|i| has_name(held(disk, *i), name))
 }
 
 // The record of a name.
 pub fn find_record<D: Disk>(disk: &D, name: &Name) -> Option<Record>
-    ensures { result ≡ record_of (D.Disk.block disk.now) (name_of name.now) }
+    ensures { result ≡ record_of (D.meaning.block disk.now) (name_of name.now) }
 {
     let i = find(disk, name)?;
     held(disk, i)
@@ -93,61 +85,38 @@ pub fn find_record<D: Disk>(disk: &D, name: &Name) -> Option<Record>
 
 // A pair of slots with no record.
 fn find_vacant<D: Disk>(disk: &D) -> Option<usize>
-    ensures { result ≡ vacant (D.Disk.block disk.now) }
+    ensures { result ≡ vacant (D.meaning.block disk.now) }
 {
-    for i in 0..NAMES {
-        if held(disk, i).is_none() {
-            return Some(i);
-        }
-    }
-    None
-}
-
-// Takes in the blocks of a record.
-fn take_in(all: &mut Set, slot: &Option<Record>)
-    ensures { (b : ℕ) → b < 2048 → has all.new.bits b ≡ (has all.old.bits b || has_in slot.now b) }
-{
-    if let Some(r) = slot {
-        all.join(&r.blocks);
-    }
+    (0..NAMES).find(|i| held(disk, *i).is_none())
 }
 
 // The blocks of all files that hold.
 pub fn used<D: Disk>(disk: &D) -> Set
-    ensures { (b : ℕ) → b < 2048 → has result.bits b ≡ in_file (D.Disk.block disk.now) b }
+    ensures { (b : ℕ) → b < 2048 → has result.bits b ≡ in_file (D.meaning.block disk.now) b }
 {
     let mut all = Set::empty();
+    // Kept: a for, since it joins into one set in place.
     for i in 0..NAMES {
-        take_in(&mut all, &held(disk, i));
+        if let Some(r) = held(disk, i) {
+            all.join(&r.blocks);
+        }
     }
     all
 }
 
-fn count_in(slot: &Option<Record>) -> u64
-    ensures { result ≡ count_in slot.now }
-{
-    match slot {
-        Some(r) => r.count,
-        None => 0,
-    }
-}
-
 fn find_pair<D: Disk>(disk: &D, name: &Name) -> Option<usize>
-    ensures { result ≡ or_else (place (D.Disk.block disk.now) (name_of name.now)) (vacant (D.Disk.block disk.now)) }
+    ensures { result ≡ or_else (place (D.meaning.block disk.now) (name_of name.now)) (vacant (D.meaning.block disk.now)) }
 {
-    match find(disk, name) {
-        Some(i) => Some(i),
-        None => find_vacant(disk),
-    }
+    find(disk, name).or_else(|| find_vacant(disk))
 }
 
 // Where a put of that name goes: the slot that does not hold, and the count that holds. A name that has no file takes a pair with no record.
 pub fn find_target<D: Disk>(disk: &D, name: &Name) -> Option<Target>
-    ensures { result ≡ target (D.Disk.block disk.now) (name_of name.now) }
+    ensures { result ≡ target (D.meaning.block disk.now) (name_of name.now) }
 {
     let i = find_pair(disk, name)?;
     Some(Target {
         slot: other_slot(disk, i),
-        count: count_in(&held(disk, i)),
+        count: held(disk, i).map_or(0, |r| r.count),
     })
 }

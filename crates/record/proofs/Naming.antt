@@ -2,6 +2,7 @@
 use Rattle.std.proofs.Common.{◌≡◌, ℕ, ◌+◌, ◌-◌, ◌<◌, ◌≤◌, Bool, true, false, ◌&&◌, leb, List, [], ◌∷◌, ◌++◌, length, take, drop, replicate, refl, ap, ◌∙◌, arith}
 use Rattle.std.proofs.lemmas.Bool.{le-leb, lt-leb, and_right, and_left, and_parts, leb-true}
 use Rattle.std.proofs.lemmas.List.{drop-replicate, take_at, length-append, length-replicate}
+use Rattle.std.specs.List.{list_all}
 use Rattle.model.specs.Keyed.{every}
 use Rattle.model.specs.Put.{is_name_byte}
 use Rattle.record.specs.Names.{is_name, named, name_of}
@@ -24,17 +25,10 @@ pub name-most : (bs : List ℕ) → is_name bs ≡ true → length bs ≤ 32
 unfolding is_name
 name-most bs e = leb-true (length bs) 32 (and_parts (leb (length bs) 32) _ (and_parts (leb 1 (length bs)) _ e).1).0
 
-pub every-stop : (p : ℕ → Bool) (x : ℕ) (xs : List ℕ) → p x ≡ false → every p (x ∷ xs) ≡ false
+pub every-all : (p : ℕ → Bool) (xs : List ℕ) → list_all p xs ≡ every p xs
 unfolding every
-every-stop p x xs e = ap (λ (b : Bool). b && every p xs) e
-
-pub every-on : (p : ℕ → Bool) (x : ℕ) (xs : List ℕ) → p x ≡ true → every p (x ∷ xs) ≡ every p xs
-unfolding every
-every-on p x xs e = ap (λ (b : Bool). b && every p xs) e
-
-pub every-nil : (p : ℕ → Bool) → every p [] ≡ true
-unfolding every
-every-nil p = refl
+every-all p [] = refl
+every-all p (x ∷ xs) = ap (λ (b : Bool). p x && b) (every-all p xs)
 
 pub bytes-in : (bs all : List ℕ) → length bs ≤ 32 → all ≡ take 0 (replicate 32 0) ++ (bs ++ drop (0 + length bs) (replicate 32 0)) → all ≡ (named bs).bytes
 bytes-in bs all h e =

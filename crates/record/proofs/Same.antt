@@ -1,31 +1,29 @@
 -- Whether two byte strings are one.
-use Rattle.std.proofs.Common.{◌≡◌, ℕ, Bool, true, false, cond, T, eqb, List, [], ◌∷◌, sym, refl, ap, ◌∙◌}
-use Rattle.std.proofs.lemmas.Bool.{eq-eqb, eqb-true, false≢true}
+use Rattle.std.proofs.Common.{◌≡◌, ℕ, Bool, true, false, cond, ◌&&◌, eqb, ◌↔◌, IsTrue, Decides, List, refl}
+use Rattle.std.specs.Str.{bytes_eq}
+use Rattle.std.proofs.lemmas.Bool.Decides.{same_from_decides}
+use Rattle.std.proofs.lemmas.Slice.Eq.{bytes_eq-Decides, compares_Decides}
 use Rattle.model.specs.Files.{same}
 
-pub same_refl : (xs : List ℕ) → same xs xs ≡ true
-unfolding same
-same_refl [] = refl
-same_refl (x ∷ xs) = ap (λ (b : Bool). cond b (same xs xs) false) (eq-eqb x x refl) ∙ same_refl xs
+if_and : (a b : Bool) → cond a b false ≡ (a && b)
+if_and true b = refl
+if_and false b = refl
 
-heads : (x y : ℕ) (xs ys : List ℕ) (b : Bool) → eqb x y ≡ b → cond b (same xs ys) false ≡ true → (same xs ys ≡ true → xs ≡ ys) → x ∷ xs ≡ y ∷ ys
-heads x y xs ys true e h k = ap (λ (z : ℕ). z ∷ xs) (eqb-true x y e) ∙ ap (λ (zs : List ℕ). y ∷ zs) (k h)
-heads x y xs ys false e h k = absurd (false≢true h)
+pub same-decides : (xs ys : List ℕ) → Decides (same xs ys) (xs ≡ ys)
+unfolding same
+same-decides xs ys = compares_Decides same (record { empty = refl; shorter = λ y ys. refl; longer = λ x xs. refl; heads = λ x y xs ys. if_and (eqb x y) (same xs ys) }) xs ys
+
+pub same_refl : (xs : List ℕ) → same xs xs ≡ true
+same_refl xs = (same-decides xs xs).1 refl
 
 pub same-eq : (xs ys : List ℕ) → same xs ys ≡ true → xs ≡ ys
-unfolding same
-same-eq [] [] h = refl
-same-eq [] (y ∷ ys) h = absurd (false≢true h)
-same-eq (x ∷ xs) [] h = absurd (false≢true h)
-same-eq (x ∷ xs) (y ∷ ys) h = heads x y xs ys (eqb x y) refl h (same-eq xs ys)
+same-eq xs ys = (same-decides xs ys).0
 
 pub eq-same : (xs ys : List ℕ) → xs ≡ ys → same xs ys ≡ true
-eq-same xs ys e = ap (λ (zs : List ℕ). same xs zs) (sym e) ∙ same_refl xs
+eq-same xs ys = (same-decides xs ys).1
 
-pub decided : (b : Bool) (xs ys : List ℕ) → (T b → xs ≡ ys) → (xs ≡ ys → T b) → b ≡ same xs ys
-decided true xs ys f g = sym (eq-same xs ys (f tt))
-decided false xs ys f g = go (same xs ys) refl
-  where
-    go : (v : Bool) → same xs ys ≡ v → false ≡ v
-    go true e = absurd (g (same-eq xs ys e))
-    go false e = refl
+pub decided : (b : Bool) (xs ys : List ℕ) → IsTrue b ↔ (xs ≡ ys) → b ≡ same xs ys
+decided b xs ys h = same_from_decides b (same xs ys) h (same-decides xs ys)
+
+pub bytes-same : (xs ys : List ℕ) → bytes_eq xs ys ≡ same xs ys
+bytes-same xs ys = same_from_decides (bytes_eq xs ys) (same xs ys) (bytes_eq-Decides xs ys) (same-decides xs ys)

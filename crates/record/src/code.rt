@@ -16,15 +16,12 @@ impl Record {
     pub fn makes_sense(&self) -> bool
         ensures { result ≡ makes_sense self.now }
     {
-        if self.name.size > 32 {
-            return false;
-        }
-        if !is_name(self.name.as_slice()) {
-            return false;
-        }
-        self.blocks.count() == (self.size as usize + 511) / 512
+        self.name.size <= 32
+            && (is_name(self.name.as_slice())
+                && self.blocks.count() == (self.size as usize).div_ceil(512))
     }
 
+    // Kept: a pair of functions named as the promises name them; TryFrom would add an error that says nothing.
     pub fn encode(&self) -> Block
         ensures bytes { result ≡ encode self.now }
         ensures name { length self.now.name.bytes ≡ 32 }
@@ -63,25 +60,15 @@ impl Record {
         ensures { result ≡ decode y.now }
     {
         let r = Record::guess(y);
-        if !r.makes_sense() {
-            return None;
-        }
-        if !equal(&r.encode(), y) {
-            return None;
-        }
-        Some(r)
+        (r.makes_sense() && equal(&r.encode(), y)).then_some(r)
     }
 }
 
 // What is promised of blocks and records, for all of them.
-pub fn reads_back() -> u8
+pub fn reads_back()
     ensures { ReadsBack }
-{
-    0
-}
+{}
 
-pub fn fresh_holds_none() -> u8
+pub fn fresh_holds_none()
     ensures { FreshHoldsNone }
-{
-    0
-}
+{}

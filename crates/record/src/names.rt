@@ -1,12 +1,14 @@
 // Names that can be read, and whether two are one.
-ghost use Rattle.std.specs.Prelude.{◌≡◌, ◌&&◌, length, if◌then◌else◌, Some, None};
-ghost use Rattle.model.specs.Files.{same};
-ghost use Rattle.model.specs.Keyed.{every};
+ghost use Rattle.std.specs.Prelude.{◌≡◌, if◌then◌else◌, Some, None};
+ghost use Rattle.std.specs.Str.{bytes_eq};
+ghost use Rattle.std.specs.Ordering.{on};
+ghost use Rattle.std.specs.Cmp.Rules.{comparing};
+ghost use Rattle.std.proofs.Common.{rules};
 ghost use Rattle.model.specs.Put.{is_name_byte};
 ghost use Rattle.record.specs.Names.{name_of, is_name, named};
 
 use crate::name::Name;
-use octets::{equal, put};
+use octets::put;
 
 fn is_name_byte(b: u8) -> bool
     ensures { result ≡ is_name_byte b }
@@ -14,31 +16,15 @@ fn is_name_byte(b: u8) -> bool
     matches!(b, b'a'..=b'z' | b'0'..=b'9' | b'.')
 }
 
-fn all_name_bytes(bytes: &[u8]) -> bool
-    ensures { result ≡ every is_name_byte bytes.now }
-{
-    for b in bytes {
-        if !is_name_byte(*b) {
-            return false;
-        }
-    }
-    true
-}
-
 // Whether bytes are a name: 1 to 32 small letters, digits and dots.
 pub fn is_name(bytes: &[u8]) -> bool
     ensures { result ≡ is_name bytes.now }
 {
-    if bytes.len() < 1 {
-        return false;
-    }
-    if bytes.len() > 32 {
-        return false;
-    }
-    all_name_bytes(bytes)
+    !bytes.is_empty() && (bytes.len() <= 32 && bytes.iter().copied().all(is_name_byte))
 }
 
 impl Name {
+    // Kept: an Option, since TryFrom would add an error that says nothing.
     // The name of such bytes.
     pub fn new(bytes: &[u8]) -> Option<Name>
         ensures { result ≡ (if is_name bytes.now then Some (named bytes.now) else None) }
@@ -59,10 +45,15 @@ impl Name {
     {
         &self.bytes[0..(self.size as usize).min(32)]
     }
+}
 
-    pub fn is(&self, other: &Name) -> bool
-        ensures { result ≡ same (name_of self.now) (name_of other.now) }
-    {
-        equal(self.as_slice(), other.as_slice())
+// Two names are one where their bytes are, whatever stands behind them.
+impl PartialEq for Name {
+    ghost eq = { on name_of bytes_eq };
+
+    ghost laws = { Prim.search (comparing, rules) };
+
+    fn eq(&self, other: &Name) -> bool {
+        self.as_slice() == other.as_slice()
     }
 }

@@ -16,32 +16,28 @@ use Rattle.opened.specs.Opened.{held, has_in, other_slot, count_in, place, vacan
 use Rattle.opened.proofs.First.{any_none, none_any, any-alike}
 use Rattle.opened.proofs.Slots.{But, held-is, held-elsewhere, held-junk, held_new, held-old, slot-bounds}
 use Rattle.opened.proofs.Kept.{all_same, data-held, data-kept, joined_same, Goes, goes, slot_kept, slot-new}
-use Rattle.store.specs.Leases.{lease, lease_has, Alone, Sound}
+use Rattle.store.specs.Leases.{Table, lease, lease_has, Alone, Sound}
 use Rattle.store.specs.Stores.{lease_bits, WroteNext, Kept, new_record, prepare_at, prepared, Outcome}
 use Rattle.store.specs.declared.lease.Lease.{Lease}
-use Rattle.store.specs.declared.lease.Lease.TheVariants.{Nothing, Put, Get}
+use Rattle.store.specs.declared.lease.Lease.TheVariants.{Put, Get}
 use Rattle.store.specs.declared.store.Prepared.{Prepared}
 use Rattle.store.proofs.Tables.{sound-blocks, sound-release}
 
-bits-have : (x : Lease) (b : ℕ) → has (lease_bits x) b ≡ lease_has x b
-bits-have Nothing b = has-none b
-bits-have (Put s) b = refl
-bits-have (Get s) b = refl
+bits-have : (x : Option Lease) (b : ℕ) → has (lease_bits x) b ≡ lease_has x b
+bits-have None b = has-none 256 b
+bits-have (Some x) b = refl
 
-no-nothing-put : (s : Set) → Nothing ≡ Put s → ⊥
+no-nothing-put : (s : Set) → ◌≡◌ {A = Option Lease} None (Some (Put s)) → ⊥
 no-nothing-put s e = let z : ◌≡◌ {A = ℕ} 0 1 = cc in omega arith
 
-no-get-put : (r s : Set) → Get r ≡ Put s → ⊥
-no-get-put r s e = let z : ◌≡◌ {A = ℕ} 0 1 = cc in omega arith
-
 -- a put is in the table
-pub put-within : (ls : List Lease) (t : ℕ) (s : Set) → length ls ≡ 16 → lease ls t ≡ Put s → t < 16
+pub put-within : (ls : Table) (t : ℕ) (s : Set) → length ls ≡ 16 → lease ls t ≡ Some (Put s) → t < 16
 put-within ls t s l e =
-    ⊎_elim (λ h. h) (λ h. absurd (no-nothing-put s (sym (get_or_past ls t Nothing (omega arith)) ∙ e))) (cases_lt t 16)
+    ⊎_elim (λ h. h) (λ h. absurd (no-nothing-put s (sym (get_or_past ls t None (omega arith)) ∙ e))) (cases_lt t 16)
 
 -- A block of data: no file and nothing of others under way changes.
-pub write_kept : (f g : Blocks) (ls : List Lease) (t b : ℕ) (s : Set) (x : List ℕ) (up : Bool)
-    → Sound f ls → lease ls t ≡ Put s → has s.bits b ≡ true → Wrote f (128 + b) x up g → Kept f ls t g
+pub write_kept : (f g : Blocks) (ls : Table) (t b : ℕ) (s : Set) (x : List ℕ) (up : Bool)
+    → Sound f ls → lease ls t ≡ Some (Put s) → has s.bits b ≡ true → Wrote f (128 + b) x up g → Kept f ls t g
 write_kept f g ls t b s x up ok e h w =
     let l : t < 16 = put-within ls t s ok.places e in
     let a : Alone f ls t s = ok.alone t s l e in
@@ -56,7 +52,7 @@ write_kept f g ls t b s x up ok e h w =
           both_ways (lease_has (lease ls u) b) (a.others u b m n h) (sym (bits-have (lease ls u) b) ∙ ap (has (lease_bits (lease ls u))) (sym same) ∙ z)));
     }
 
-pub kept-none : (f g : Blocks) (ls : List Lease) (t : ℕ) → ((a : ℕ) → g a ≡ f a) → Sound f ls → Kept f ls t g
+pub kept-none : (f g : Blocks) (ls : Table) (t : ℕ) → ((a : ℕ) → g a ≡ f a) → Sound f ls → Kept f ls t g
 kept-none f g ls t e ok =
     let h : (i : ℕ) → held g i ≡ held f i = λ i. held-is f g i (e (2 * i)) (e (2 * i + 1)) in
     record {
@@ -66,7 +62,7 @@ kept-none f g ls t e ok =
     }
 
 -- the next block of a put, or none
-pub next-kept : (f g : Blocks) (ls : List Lease) (t from : ℕ) (s : Set) (x : List ℕ) (up : Bool) → lease ls t ≡ Put s
+pub next-kept : (f g : Blocks) (ls : Table) (t from : ℕ) (s : Set) (x : List ℕ) (up : Bool) → lease ls t ≡ Some (Put s)
     → WroteNext f (first (has s.bits) (2048 - from) from) x up g → Sound f ls → Kept f ls t g
 next-kept f g ls t from s x up e w ok = go (first (has s.bits) (2048 - from) from) refl w
   where
@@ -75,9 +71,9 @@ next-kept f g ls t from s x up e w ok = go (first (has s.bits) (2048 - from) fro
     go (Some b) q v = write_kept f g ls t b s x up ok e (first_found (has s.bits) (2048 - from) from b q).passes v
 
 -- what is known of a record that is to be written
-pub record Ready (f : Blocks) (n : List ℕ) (size : ℕ) (x : Lease) (p : Prepared) : Type 0 where
+pub record Ready (f : Blocks) (n : List ℕ) (size : ℕ) (x : Option Lease) (p : Prepared) : Type 0 where
   pub set : Set
-  pub put : x ≡ Put set
+  pub put : x ≡ Some (Put set)
   pub pair : ℕ
   pub goes : Goes f n pair
   pub slot : p.slot ≡ other_slot f pair
@@ -90,7 +86,7 @@ pub record Ready (f : Blocks) (n : List ℕ) (size : ℕ) (x : Lease) (p : Prepa
 
 ready_at : (f : Blocks) (s : Set) (n : Name) (size : ℕ) (p : Prepared) (i : ℕ) (v : Bool) → or_else (place f (name_of n)) (vacant f) ≡ Some i
     → (ltb (target_at f i).count 18446744073709551615 && makes_sense (new_record s n size (target_at f i))) ≡ v
-    → cond v (Some (record { slot = (target_at f i).slot; entry = new_record s n size (target_at f i) })) None ≡ Some p → Ready f (name_of n) size (Put s) p
+    → cond v (Some (record { slot = (target_at f i).slot; entry = new_record s n size (target_at f i) })) None ≡ Some p → Ready f (name_of n) size (Some (Put s)) p
 ready_at f s n size p i true eo ev q =
     let parts = and_parts (ltb (target_at f i).count 18446744073709551615) (makes_sense (new_record s n size (target_at f i))) ev in
     let e : record { slot = (target_at f i).slot; entry = new_record s n size (target_at f i) } ≡ p = cc in
@@ -111,17 +107,17 @@ ready_at f s n size p i true eo ev q =
     }
 ready_at f s n size p i false eo ev q = absurd (let z : ◌≡◌ {A = ℕ} 0 1 = cc in omega arith)
 
-pub ready : (f : Blocks) (x : Lease) (n : Name) (size : ℕ) (p : Prepared) → prepared f x n size ≡ Some p → Ready f (name_of n) size x p
-ready f Nothing n size p e = absurd (let z : ◌≡◌ {A = ℕ} 0 1 = cc in omega arith)
-ready f (Get s) n size p e = absurd (let z : ◌≡◌ {A = ℕ} 0 1 = cc in omega arith)
-ready f (Put s) n size p e = go (or_else (place f (name_of n)) (vacant f)) refl e
+pub ready : (f : Blocks) (x : Option Lease) (n : Name) (size : ℕ) (p : Prepared) → prepared f x n size ≡ Some p → Ready f (name_of n) size x p
+ready f None n size p e = absurd (let z : ◌≡◌ {A = ℕ} 0 1 = cc in omega arith)
+ready f (Some (Get s)) n size p e = absurd (let z : ◌≡◌ {A = ℕ} 0 1 = cc in omega arith)
+ready f (Some (Put s)) n size p e = go (or_else (place f (name_of n)) (vacant f)) refl e
   where
-    go : (o : Option ℕ) → or_else (place f (name_of n)) (vacant f) ≡ o → prepare_at s n size (option_map (target_at f) o) ≡ Some p → Ready f (name_of n) size (Put s) p
+    go : (o : Option ℕ) → or_else (place f (name_of n)) (vacant f) ≡ o → prepare_at s n size (option_map (target_at f) o) ≡ Some p → Ready f (name_of n) size (Some (Put s)) p
     go None eo q = absurd (let z : ◌≡◌ {A = ℕ} 0 1 = cc in omega arith)
     go (Some i) eo q = ready_at f s n size p i (ltb (target_at f i).count 18446744073709551615 && makes_sense (new_record s n size (target_at f i))) eo refl q
 
 -- The record: whole, torn or junk.
-module _ (f g : Blocks) (n : List ℕ) (size : ℕ) (x : Lease) (p : Prepared) (r : Ready f n size x p) where
+module _ (f g : Blocks) (n : List ℕ) (size : ℕ) (x : Option Lease) (p : Prepared) (r : Ready f n size x p) where
   but : (up : Bool) → Wrote f p.slot (encode p.entry) up g → But f (other_slot f r.pair) g
   but up w = subst (λ (s : ℕ). But f s g) r.slot w.others
 
@@ -144,16 +140,16 @@ module _ (f g : Blocks) (n : List ℕ) (size : ℕ) (x : Lease) (p : Prepared) (
       w.here
 
   -- the blocks of other puts stay with them alone
-  pub commit-sound : (ls : List Lease) (t : ℕ) → Sound f ls → lease ls t ≡ x → Wrote f p.slot (encode p.entry) true g → Whole p.entry → Sound g (set ls t Nothing)
+  pub commit-sound : (ls : Table) (t : ℕ) → Sound f ls → lease ls t ≡ x → Wrote f p.slot (encode p.entry) true g → Whole p.entry → Sound g (set ls t None)
   commit-sound ls t ok e w whole =
       let l : t < 16 = put-within ls t r.set ok.places (e ∙ r.put) in
       let a : Alone f ls t r.set = ok.alone t r.set l (e ∙ r.put) in
-      let after : Sound f (set ls t Nothing) = sound-release f ls t ok in
+      let after : Sound f (set ls t None) = sound-release f ls t ok in
       let new : held g r.pair ≡ Some p.entry = new-held true w whole w.here in
       record {
         places = after.places;
         alone = λ u s m q.
-            let b' : Alone f (set ls t Nothing) u s = after.alone u s m q in
+            let b' : Alone f (set ls t None) u s = after.alone u s m q in
             record {
               files = λ b z.
                   none_any (λ i. has_in (held g i) b) 64 (λ i li.
@@ -167,14 +163,14 @@ module _ (f g : Blocks) (n : List ℕ) (size : ℕ) (x : Lease) (p : Prepared) (
             };
       }
     where
-      mine : (ls : List Lease) (t u : ℕ) (s : Set) (b : ℕ) → Sound f ls → Alone f ls t r.set → t < 16 → u < 16 → lease (set ls t Nothing) u ≡ Put s → has s.bits b ≡ true → has r.set.bits b ≡ false
+      mine : (ls : Table) (t u : ℕ) (s : Set) (b : ℕ) → Sound f ls → Alone f ls t r.set → t < 16 → u < 16 → lease (set ls t None) u ≡ Some (Put s) → has s.bits b ≡ true → has r.set.bits b ≡ false
       mine ls t u s b ok a l m q z =
           ⊎_elim
           (λ (same : u ≡ t).
-          absurd (no-nothing-put s (sym (get_or-set_same ls t Nothing Nothing (let k = ok.places in omega arith)) ∙ ap (lease (set ls t Nothing)) (sym same) ∙ q)))
+          absurd (no-nothing-put s (sym (get_or-set_same ls t None None (let k = ok.places in omega arith)) ∙ ap (lease (set ls t None)) (sym same) ∙ q)))
           (λ (other : u ≡ t → ⊥).
-          let p' : lease ls u ≡ Put s = sym (get_or-set_other ls t u Nothing Nothing other) ∙ q in
-          ⊎_elim (λ y. absurd (both_ways (has s.bits b) (ap (λ (v : Lease). lease_has v b) (sym p') ∙ a.others u b m other y) z)) (λ y. y) (cases_Bool (has r.set.bits b)))
+          let p' : lease ls u ≡ Some (Put s) = sym (get_or-set_other ls t u None None other) ∙ q in
+          ⊎_elim (λ y. absurd (both_ways (has s.bits b) (ap (λ (v : Option Lease). lease_has v b) (sym p') ∙ a.others u b m other y) z)) (λ y. y) (cases_Bool (has r.set.bits b)))
           (cases_eq u t)
 
   -- no data changes
@@ -183,6 +179,6 @@ module _ (f g : Blocks) (n : List ℕ) (size : ℕ) (x : Lease) (p : Prepared) (
       joined_same f g s k (λ j lj z. let b = slot-bounds f r.pair in let m = r.goes.below in but up w (128 + j) (λ q. omega (arith, b.1, m)))
 
 -- what is written is whole
-pub whole-entry : (f : Blocks) (n : List ℕ) (size : ℕ) (x : Lease) (p : Prepared) → Ready f n size x p → length p.entry.name.bytes ≡ 32 → length p.entry.blocks.bits ≡ 256 → size < 2 ^ 32
+pub whole-entry : (f : Blocks) (n : List ℕ) (size : ℕ) (x : Option Lease) (p : Prepared) → Ready f n size x p → length p.entry.name.bytes ≡ 32 → length p.entry.blocks.bits ≡ 256 → size < 2 ^ 32
     → Whole p.entry
 whole-entry f n size x p r ln lb ls = record { name = ln; blocks = lb; count = r.most; size = subst (λ (m : ℕ). m < 2 ^ 32) (sym r.length) ls }

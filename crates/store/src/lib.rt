@@ -4,5 +4,4 @@
 pub mod calls;
 pub mod commits;
 pub mod lease;
-pub mod leases;
 pub mod store;

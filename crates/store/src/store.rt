@@ -1,5 +1,10 @@
 // What the store is made of, and what its calls answer.
+ghost use Rattle.std.specs.Prelude.{◌≡◌};
+ghost use Rattle.store.specs.declared.store.Unwritten.TheVariants.{Lost};
+ghost use Rattle.store.specs.declared.store.Refused.TheVariants as refused;
+
 use crate::lease::Leases;
+use disk::disk::Crashed;
 use record::code::Block;
 use record::record::Record;
 
@@ -49,4 +54,20 @@ pub enum Unwritten {
 pub enum Refused {
     NoRoom,
     Crashed,
+}
+
+impl From<Crashed> for Unwritten {
+    ghost from_gives = { λ _ e. e ≡ Lost };
+
+    fn from(_crashed: Crashed) -> Unwritten {
+        Unwritten::Lost
+    }
+}
+
+impl From<Crashed> for Refused {
+    ghost from_gives = { λ _ e. e ≡ refused.Crashed };
+
+    fn from(_crashed: Crashed) -> Refused {
+        Refused::Crashed
+    }
 }

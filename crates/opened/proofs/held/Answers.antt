@@ -1,11 +1,14 @@
-use Rattle.std.proofs.Common.{ap, ◌∙◌}
-use Rattle.record.specs.Records.{decode}
+use Rattle.std.proofs.Common.{sym, ◌∙◌}
 use Rattle.opened.specs.Opened.{holding, held}
+use Rattle.opened.proofs.Slots.{picks-first, picks-second}
 use Rattle.opened.proofs.held.Goals as goal
 
-pub returns : goal.returns
+pub returns-then-first_holds : goal.returns-then-first_holds
 unfolding held
-returns g c =
-    let a = c.decode-a.ensures ∙ ap decode c.read.ensures in
-    let b = c.decode-b.ensures ∙ ap decode c.read-2.ensures in
-    c.newer.ensures ∙ (λ i. holding (a i) (b i))
+returns-then-first_holds g c =
+    sym (picks-first _ _ (sym c.first_holds.ensures ∙ c.if-first_holds.true)) ∙ (λ i. holding (c.pair-a.ensures.first i) (c.pair-a.ensures.second i))
+
+pub returns-else-first_holds : goal.returns-else-first_holds
+unfolding held
+returns-else-first_holds g c =
+    sym (picks-second _ _ (sym c.first_holds.ensures ∙ c.if-first_holds.false)) ∙ (λ i. holding (c.pair-a.ensures.first i) (c.pair-a.ensures.second i))

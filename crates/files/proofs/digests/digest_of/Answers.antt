@@ -11,7 +11,7 @@ use Rattle.files.proofs.digests.digest_of.Goals.{then-has, else-has}
 
 pub loop-k-init : goal.loop-k-init
 loop-k-init g c =
-    let f : Blocks = g.D.Disk.block c.args.disk.now in
+    let f : Blocks = g.D.Disk.meaning.block c.args.disk.now in
     let s : List ℕ = c.args.blocks.now.bits in
     let z : joined f s 0 ≡ [] = joined-zero f s in (
       (let l : length (joined f s 0) ≡ 0 = ap length z in omega arith),
@@ -40,7 +40,7 @@ module _ (f : Blocks) (s : List ℕ) (size k : ℕ) (b : List ℕ) (left : ℕ) 
 
 pub loop-k-preserved : goal.loop-k-preserved
 loop-k-preserved g c =
-    let f : Blocks = g.D.Disk.block c.args.disk.now in
+    let f : Blocks = g.D.Disk.meaning.block c.args.disk.now in
     let s : List ℕ = c.args.blocks.now.bits in
     let k : ℕ = c.loop-k.k in
     elim c.if-has.branch [
@@ -61,7 +61,7 @@ loop-k-preserved g c =
 
 pub returns : goal.returns
 returns g c =
-    let f : Blocks = g.D.Disk.block c.args.disk.now in
+    let f : Blocks = g.D.Disk.meaning.block c.args.disk.now in
     let s : List ℕ = c.args.blocks.now.bits in
     let e : c.loop-k.k ≡ 2048 = omega arith in
     c.finish.ensures (take c.args.size (joined f s c.loop-k.k)) c.loop-k.invariant.1 ∙ ap (λ (k : ℕ). SHA256 (take c.args.size (joined f s k))) e

@@ -10,7 +10,7 @@ use Rattle.disk.proofs.failing_disk.FailingDisk.write.Goals as goal
 pub returns-then-not-self : goal.returns-then-not-self
 returns-then-not-self g c =
     record {
-      after = f-down g.D.Disk.up g.D.Disk.wrote c.args.self.now c.args.b c.args.bytes.now c.if-not-self.true;
+      after = f-down g.D.Disk.meaning c.args.self.now c.args.b c.args.bytes.now c.if-not-self.true;
       answer = sym c.if-not-self.true;
       blocks = none_written _ c.args.b c.args.bytes.now _ c.if-not-self.true;
       down = λ e. refl;
@@ -18,20 +18,20 @@ returns-then-not-self g c =
 
 pub returns-then-self-gt0 : goal.returns-then-self-gt0
 returns-then-self-gt0 g c =
-    let a : c.is_ok-self.result ≡ g.D.Disk.up c.write-r.new.self = c.is_ok-self.ensures.value ∙ c.write-r.ensures.answer in
+    let a : c.is_ok-self.result ≡ g.D.Disk.meaning.up c.write-r.new.self = c.is_ok-self.ensures.value ∙ c.write-r.ensures.answer in
     record {
-      after = f-more g.D.Disk.up g.D.Disk.wrote c.args.self.now c.args.b c.args.bytes.now c.write-r.new.self c.is_ok-self.result
+      after = f-more g.D.Disk.meaning c.args.self.now c.args.b c.args.bytes.now c.write-r.new.self c.is_ok-self.result
           c.if-not-self.false c.if-self-gt0.true c.write-r.ensures.after a;
       answer = sym c.is_ok-self.ensures.value;
-      blocks = subst (λ (v : Bool). Wrote (g.D.Disk.block c.args.self.now.disk) c.args.b c.args.bytes.now v (g.D.Disk.block c.write-r.new.self)) (sym a) c.write-r.ensures.blocks;
+      blocks = subst (λ (v : Bool). Wrote (g.D.Disk.meaning.block c.args.self.now.disk) c.args.b c.args.bytes.now v (g.D.Disk.meaning.block c.write-r.new.self)) (sym a) c.write-r.ensures.blocks;
       down = λ e. absurd (both_ways _ e c.if-not-self.false);
     }
 
 pub returns-in-Old : goal.returns-in-Old
 returns-in-Old g c =
     record {
-      after = f-last g.D.Disk.up g.D.Disk.wrote c.args.self.now c.args.b c.args.bytes.now _ c.if-not-self.false (omega arith)
-          (sym (ap (λ (k : Leaves). torn g.D.Disk.up g.D.Disk.wrote k c.args.self.now.disk c.args.b c.args.bytes.now) c.in-Old.is));
+      after = f-last g.D.Disk.meaning c.args.self.now c.args.b c.args.bytes.now _ c.if-not-self.false (omega arith)
+          (sym (ap (λ (k : Leaves). torn g.D.Disk.meaning k c.args.self.now.disk c.args.b c.args.bytes.now) c.in-Old.is));
       answer = refl;
       blocks = none_written _ c.args.b c.args.bytes.now _ refl;
       down = λ e. absurd (both_ways _ e c.if-not-self.false);
@@ -40,8 +40,8 @@ returns-in-Old g c =
 pub returns-in-New : goal.returns-in-New
 returns-in-New g c =
     record {
-      after = f-last g.D.Disk.up g.D.Disk.wrote c.args.self.now c.args.b c.args.bytes.now _ c.if-not-self.false (omega arith)
-          (c.write.ensures.after ∙ sym (ap (λ (k : Leaves). torn g.D.Disk.up g.D.Disk.wrote k c.args.self.now.disk c.args.b c.args.bytes.now) c.in-New.is));
+      after = f-last g.D.Disk.meaning c.args.self.now c.args.b c.args.bytes.now _ c.if-not-self.false (omega arith)
+          (c.write.ensures.after ∙ sym (ap (λ (k : Leaves). torn g.D.Disk.meaning k c.args.self.now.disk c.args.b c.args.bytes.now) c.in-New.is));
       answer = refl;
       blocks = crash-new _ _ c.args.b c.args.bytes.now _ c.write.ensures.blocks;
       down = λ e. absurd (both_ways _ e c.if-not-self.false);
@@ -50,8 +50,8 @@ returns-in-New g c =
 pub returns-in-Zeros : goal.returns-in-Zeros
 returns-in-Zeros g c =
     record {
-      after = f-last g.D.Disk.up g.D.Disk.wrote c.args.self.now c.args.b c.args.bytes.now _ c.if-not-self.false (omega arith)
-          (c.write-in-Zeros.ensures.after ∙ sym (ap (λ (k : Leaves). torn g.D.Disk.up g.D.Disk.wrote k c.args.self.now.disk c.args.b c.args.bytes.now) c.in-Zeros.is));
+      after = f-last g.D.Disk.meaning c.args.self.now c.args.b c.args.bytes.now _ c.if-not-self.false (omega arith)
+          (c.write-in-Zeros.ensures.after ∙ sym (ap (λ (k : Leaves). torn g.D.Disk.meaning k c.args.self.now.disk c.args.b c.args.bytes.now) c.in-Zeros.is));
       answer = refl;
       blocks = crash-zeros _ _ c.args.b c.args.bytes.now _ c.write-in-Zeros.ensures.blocks;
       down = λ e. absurd (both_ways _ e c.if-not-self.false);

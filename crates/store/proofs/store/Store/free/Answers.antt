@@ -9,6 +9,6 @@ overflow_sub-result g c = omega (arith, c.count.ensures, tally-most (has c.used.
 
 pub returns : goal.returns
 returns g c =
-    let e : tally (has c.used.result.bits) 2048 ≡ tally (used (g.D.Disk.block c.args.self.now.disk) c.args.self.now.leases) 2048 =
-    tally-alike (has c.used.result.bits) (used (g.D.Disk.block c.args.self.now.disk) c.args.self.now.leases) 2048 c.used.ensures in
+    let e : tally (has c.used.result.bits) 2048 ≡ tally (used (g.D.Disk.meaning.block c.args.self.now.disk) c.args.self.now.leases) 2048 =
+    tally-alike (has c.used.result.bits) (used (g.D.Disk.meaning.block c.args.self.now.disk) c.args.self.now.leases) 2048 c.used.ensures in
     omega (arith, c.count.ensures, tally-most (has c.used.result.bits) 2048)

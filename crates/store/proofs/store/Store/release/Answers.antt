@@ -1,12 +1,10 @@
-use Rattle.std.proofs.Common.{sym, refl, subst}
-use Rattle.store.specs.Leases.{Sound}
+use Rattle.std.proofs.Common.{None, sym, arith}
+use Rattle.std.proofs.lemmas.List.{set_past}
 use Rattle.store.proofs.Tables.{sound-release}
 use Rattle.store.proofs.store.Store.release.Goals as goal
 
-pub returns : goal.returns
-returns g c =
-    record {
-      disk = refl;
-      leases = c.clear.ensures;
-      sound = λ ok. subst (Sound (g.D.Disk.block c.args.self.now.disk)) (sym c.clear.ensures) (sound-release (g.D.Disk.block c.args.self.now.disk) c.args.self.now.leases c.args.t ok);
-    }
+pub returns-then-t-lt-PLACES-clause-sound : goal.returns-then-t-lt-PLACES-clause-sound
+returns-then-t-lt-PLACES-clause-sound g c ok = sound-release (g.D.Disk.meaning.block c.args.self.now.disk) c.args.self.now.leases c.args.t ok
+
+pub returns-else-t-lt-PLACES-clause-leases : goal.returns-else-t-lt-PLACES-clause-leases
+returns-else-t-lt-PLACES-clause-leases g c = sym (set_past c.args.self.now.leases c.args.t None (omega arith))
