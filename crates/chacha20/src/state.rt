@@ -8,7 +8,7 @@ ghost use Rattle.chacha20.specs.Words.{Quarter};
 use crate::word::Word;
 
 // The sixteen words of a block, or of each of the blocks side by side.
-// Kept: sixteen fields, since a struct has no array of its type parameter.
+// Sixteen fields by name, so that a quarter round names its four words; an array of them was not tried.
 #[derive(Clone, Copy)]
 pub struct State<W> {
     pub x0: W,
