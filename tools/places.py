@@ -11,6 +11,7 @@
 """
 import collections
 import glob
+import itertools
 import re
 import sys
 
@@ -66,6 +67,22 @@ def items(text):
         yield found.group(1), found.group(2), head, text[i:closed(text, i)]
 
 
+def every(wanted):
+    """Each fn, struct or enum of the sources: path, the file's text, name, head, body."""
+    for path, text in files():
+        for kind, name, head, body in items(text):
+            if kind == wanted:
+                yield path, text, name, head, body
+
+
+def lines(matches):
+    """Each line of the sources that matches, with its place."""
+    for path, text in files():
+        for n, line in enumerate(text.split('\n'), 1):
+            if matches(line):
+                yield f'{path}:{n} {line.strip()}'
+
+
 def say(name, rows, verbose):
     print(f'{name}: {len(rows)}')
     if verbose:
@@ -75,32 +92,28 @@ def say(name, rows, verbose):
 
 def enums(verbose):
     mixed = []
-    for path, text in files():
-        for kind, name, _, body in items(text):
-            if kind != 'enum':
-                continue
-            cases = re.findall(r'^\s{4,8}(\w+)(\s*[({]?)', body, flags=re.M)
-            cases = [c for c in cases if c[0][0].isupper()]
-            plain = [c[0] for c in cases if not c[1].strip()]
-            if plain and len(plain) < len(cases):
-                mixed.append(f'{path} {name}: {" ".join(plain)} beside {len(cases) - len(plain)}')
+    for path, _, name, _, body in every('enum'):
+        cases = re.findall(r'^\s{4,8}(\w+)(\s*[({]?)', body, flags=re.M)
+        cases = [c for c in cases if c[0][0].isupper()]
+        plain = [c[0] for c in cases if not c[1].strip()]
+        if plain and len(plain) < len(cases):
+            mixed.append(f'{path} {name}: {" ".join(plain)} beside {len(cases) - len(plain)}')
     say('1 enums, some cases hold nothing and some hold something', mixed, verbose)
+
+
+ANSWER = re.compile(r'->\s*(bool|u8|u16|\(u8, usize\)|Option<(?:\w+::)?Fault>)\s*($|\n)')
+NUMBER = re.compile(r'\s*\(?\d+[^.\w]*(, \w+\)?)? =>')
+NUMBERED = re.compile(r'=> (?:Some\()?\d+\)?,?$|\b(row|fields|part|credit|write_truth)\((out, )?\d+,|End\(\d+\)')
 
 
 def answers(verbose):
     rows = []
-    for path, text in files():
-        for kind, name, head, body in items(text):
-            got = re.search(r'->\s*(bool|u8|u16|\(u8, usize\)|Option<(?:\w+::)?Fault>)\s*($|\n)', head.split('requires')[0].split('ensures')[0])
-            if kind == 'fn' and got and re.sub(r'\s', '', body) != '{0}' and not re.match(r'(is|has)_', name):
-                rows.append(f'{path} {name} -> {got.group(1)}')
+    for path, _, name, head, body in every('fn'):
+        got = ANSWER.search(head.split('requires')[0].split('ensures')[0])
+        if got and re.sub(r'\s', '', body) != '{0}' and not re.match(r'(is|has)_', name):
+            rows.append(f'{path} {name} -> {got.group(1)}')
     say('1 functions that answer a flag, a number or an Option of a fault', rows, verbose)
-    rows = []
-    for path, text in files():
-        for n, line in enumerate(text.split('\n'), 1):
-            if re.match(r'\s*\(?\d+[^.\w]*(, \w+\)?)? =>', line) or re.search(r'=> (?:Some\()?\d+\)?,?$', line) or re.search(r'\b(row|fields|part|credit|write_truth)\((out, )?\d+,|End\(\d+\)', line):
-                rows.append(f'{path}:{n} {line.strip()}')
-    say('1 numbers that stand for kinds, in matches and calls', rows, verbose)
+    say('1 numbers that stand for kinds, in matches and calls', list(lines(lambda line: NUMBER.match(line) or NUMBERED.search(line))), verbose)
 
 
 WORD = re.compile(r"b?\"(?:\\.|[^\"\\])*\"|'\w+|\w+|[^\s\w]")
@@ -117,69 +130,52 @@ def shape(text):
 
 def twins(verbose):
     shapes = collections.defaultdict(list)
-    for path, text in files():
-        for kind, name, head, body in items(text):
-            if name[:5] == 'test_' or '#[test]' in text[max(0, text.find(f'fn {name}') - 12):text.find(f'fn {name}')]:
-                continue
+    for wanted, least in (('fn', 24), ('struct', 12), ('enum', 12)):
+        for path, text, name, head, body in every(wanted):
+            at = text.find(f'fn {name}')
             signature = re.split(r'\n\s*(?:requires|ensures)', head)[0]
             words = shape(signature + body)
-            if kind == 'fn' and re.sub(r'\s', '', body) == '{0}':
-                continue
-            if len(words) >= (24 if kind == 'fn' else 12):
-                shapes[(kind, ' '.join(words))].append(f'{path} {name}')
+            if '#[test]' not in text[max(0, at - 12):at] and re.sub(r'\s', '', body) != '{0}' and len(words) >= least:
+                shapes[(wanted, ' '.join(words))].append(f'{path} {name}')
     groups = [g for g in shapes.values() if len(g) > 1]
     say('2 functions and types in groups of one shape', [', '.join(g) for g in groups], verbose)
     print('  in them:', sum(len(g) for g in groups))
 
 
+LOOP = re.compile(r'\s*(for \w+ in [^{]*\.\.|while |loop\b)')
+
+
 def loops(verbose):
-    rows = []
-    for path, text in files():
-        for n, line in enumerate(text.split('\n'), 1):
-            if re.match(r'\s*for \w+ in [^{]*\.\.', line) or re.match(r'\s*while ', line) or re.match(r'\s*loop\b', line):
-                rows.append(f'{path}:{n} {line.strip()}')
-    say('3 loops that count an index, and while loops', rows, verbose)
+    say('3 loops that count an index, and while loops', list(lines(LOOP.match)), verbose)
 
 
 BY_HAND = re.compile(r'(same|same_bytes|equal|is|number|place|name|of|value|newer|shown|tag_mark|key_mark|status_of|unsent|escapes?|hex_digit|refused|accepted|write_(?:number|bytes|action|actions|program|arrival|cut|user|command|truth)|counted|texted|call|call_\w+|add_(?:word|number|bytes)|user_number|byte|short|wide|way|ends|open_or_shut|guess|encode|decode)$')
 
 
+BY_HAND_IMPL = re.compile(r'\s*impl.* (From|TryFrom|PartialEq|Eq|PartialOrd|Ord|Display|Debug|Clone|Default)\b.* for ')
+
+
 def by_hand(verbose):
-    rows = []
-    for path, text in files():
-        for kind, name, _, _ in items(text):
-            if kind == 'fn' and BY_HAND.match(name):
-                rows.append(f'{path} {name}')
-        for n, line in enumerate(text.split('\n'), 1):
-            if re.match(r'\s*impl.* (From|TryFrom|PartialEq|Eq|PartialOrd|Ord|Display|Debug|Clone|Default)\b.* for ', line):
-                rows.append(f'{path}:{n} {line.strip()}')
+    rows = [f'{path} {name}' for path, _, name, _, _ in every('fn') if BY_HAND.match(name)]
+    rows += lines(BY_HAND_IMPL.match)
     say('4 functions that compare, convert or print by hand, and impls of such traits', rows, verbose)
 
 
 def facts(verbose):
     where = collections.defaultdict(set)
-    for path, text in files():
-        crate = path.split('/')[1]
-        for kind, name, head, _ in items(text):
-            if kind != 'fn':
-                continue
-            for clause in re.findall(r'(?:requires|ensures)[^{]*\{(.*)\}\s*$', head, flags=re.M):
-                for part in set(parts(clause)):
-                    where[(crate, part)].add(name)
+    for path, _, name, head, _ in every('fn'):
+        for clause in re.findall(r'(?:requires|ensures)[^{]*\{(.*)\}\s*$', head, flags=re.M):
+            for part in set(parts(clause)):
+                where[(path.split('/')[1], part)].add(name)
     rows = [(c, p, fs) for (c, p), fs in where.items() if len(fs) >= 3]
     rows = [r for r in rows if not any(r[0] == s[0] and r[1] != s[1] and r[1] in s[1] and r[2] <= s[2] for s in rows)]
     say('5 facts and terms in clauses of three or more functions of a crate', [f'{c}: {len(f)} x {p}' for c, p, f in sorted(rows)], verbose)
     where = collections.defaultdict(set)
-    for path, text in files():
-        crate = path.split('/')[1]
-        for kind, name, head, _ in items(text):
-            if kind != 'fn' or '(' not in head:
-                continue
-            inside = re.split(r'\)\s*(?:->|$|\n)', head.split('(', 1)[1])[0]
-            named = [p.strip() for p in inside.replace('\n', ' ').split(',') if ':' in p]
-            for i in range(len(named)):
-                for j in range(i + 1, len(named)):
-                    where[(crate, named[i], named[j])].add(name)
+    for path, _, name, head, _ in every('fn'):
+        inside = re.split(r'\)\s*(?:->|$|\n)', head.partition('(')[2])[0]
+        named = [p.strip() for p in inside.replace('\n', ' ').split(',') if ':' in p]
+        for one, other in itertools.combinations(named, 2):
+            where[(path.split('/')[1], one, other)].add(name)
     rows = [f'{c}: {len(f)} x {a}, {b}' for (c, a, b), f in sorted(where.items()) if len(f) >= 3]
     say('5 pairs of parameters in three or more functions of a crate', rows, verbose)
 
@@ -201,37 +197,24 @@ def parts(clause):
 
 def buffers(verbose):
     rows = []
-    for path, text in files():
-        for kind, name, _, body in items(text):
-            if kind != 'struct':
-                continue
-            count = re.findall(r'\b(?:pub )?(len|size|count|n|held|head|left|turn): (?:usize|u8|u16|u32|u64)\b', body)
-            array = re.findall(r'(\w+): (?:Vec<[^\n]*>|\[[^\n]*\]|Block)', body)
-            if count and array:
-                rows.append(f'{path} {name}: {" ".join(count)} beside {" ".join(array)}')
-            elif array:
-                rows.append(f'{path} {name}: {" ".join(array)}')
+    for path, _, name, _, body in every('struct'):
+        count = re.findall(r'\b(?:pub )?(len|size|count|n|held|head|left|turn): (?:usize|u8|u16|u32|u64)\b', body)
+        array = re.findall(r'(\w+): (?:Vec<[^\n]*>|\[[^\n]*\]|Block)', body)
+        if array:
+            rows.append(f'{path} {name}: {" ".join(count)}{" beside " if count else ""}{" ".join(array)}')
     say('6 structs with an array or a Vec', rows, verbose)
 
 
 def switches(verbose):
     rows = []
-    for path, text in files():
-        for kind, name, _, body in items(text):
-            if kind != 'fn':
-                continue
-            for found in re.finditer(r'\bmatch\b', body):
-                at = body.find('{', found.end())
-                if at < 0:
-                    continue
-                arms = body[at:closed(body, at)]
-                count = len(re.findall(r'=>', arms))
-                if count >= 6:
-                    rows.append(f'{path} {name}: {count} arms')
-                    break
-        for n, line in enumerate(text.split('\n'), 1):
-            if re.search(r'\bdyn\b|: fn\(|&fn\(|\[fn\(', line):
-                rows.append(f'{path}:{n} {line.strip()}')
+    for path, _, name, _, body in every('fn'):
+        for found in re.finditer(r'\bmatch\b', body):
+            at = body.find('{', found.end())
+            count = len(re.findall(r'=>', body[at:closed(body, at)])) if at >= 0 else 0
+            if count >= 6:
+                rows.append(f'{path} {name}: {count} arms')
+                break
+    rows += lines(re.compile(r'.*(\bdyn\b|: fn\(|&fn\(|\[fn\()').match)
     say('7 functions with a match of six or more arms; function pointers and dyn', rows, verbose)
 
 
