@@ -9,7 +9,7 @@ use Rattle.chacha20.specs.Block.{ByteAt}
 use Rattle.chacha20.specs.Cipher.{Xored}
 
 -- a byte of four words
-byte_is : (ws : List ℕ) (i : ℕ) → i < 16 → Each1 (Fits w32) ws
+pub byte_is : (ws : List ℕ) (i : ℕ) → i < 16 → Each1 (Fits w32) ws
     → get_or (digits_l 256 16 (number_l 4294967296 ws)) i 0 ≡ ByteAt ws i
 unfolding ByteAt
 byte_is ws i h fits =

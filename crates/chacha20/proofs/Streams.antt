@@ -7,6 +7,11 @@ use Rattle.chacha20.specs.Lanes.{Advance, Keyed, Lane, LaneByte}
 use Rattle.chacha20.specs.declared.state.State.{State}
 use Rattle.chacha20.proofs.Bytes.{xored-as, xored-four}
 
+-- no block on
+pub advance-none : (s : State ℕ) → s.x12 < 2 ^ 32 → s ≡ Advance 0 s
+unfolding Advance
+advance-none s h = let e : s.x12 ≡ (s.x12 + 0) % 2 ^ 32 = omega arith in cc
+
 -- the byte of a block, by its number in four blocks
 quad-byte : (f : ℕ → List ℕ) (w : List ℕ) (l k i : ℕ) → w ≡ f l → k / 64 ≡ l → k % 64 ≡ i → ByteAt w i ≡ ByteAt (f (k / 64)) (k % 64)
 quad-byte f w l k i ew el ei = cc

@@ -1,7 +1,7 @@
 -- A row of actions, one action on.
-use Rattle.std.proofs.Common.{◌≡◌, ℕ, ◌≤◌, true, false, List, [], ◌∷◌, ◌++◌, length, Some, None, Option, sym, refl, ap, ◌∙◌, append_assoc, append-nil, arith}
+use Rattle.std.proofs.Common.{◌≡◌, ℕ, ◌<◌, ◌≤◌, true, false, leb, ◌⊎◌, List, [], ◌∷◌, ◌++◌, length, Some, None, Option, sym, refl, ap, ◌∙◌, inl, inr, append_assoc, append-nil, arith}
 use Rattle.std.specs.Option.{option_map}
-use Rattle.std.proofs.lemmas.Bool.{cond-true, cond-false, and_from, le-leb}
+use Rattle.std.proofs.lemmas.Bool.{cond-true, cond-false, and_left, and_right, and_from, le-leb, lt-leb}
 use Rattle.command.specs.Orders.{Step, go}
 use Rattle.command.specs.Programs.{limited, action_of, ahead, is_go, steps_of}
 
@@ -46,6 +46,10 @@ module _ (ws : List (List ℕ)) (done : List Step) (w : List ℕ) where
 pub acted-all : (ws : List (List ℕ)) (done : List Step) → Acted ws done [] → steps_of ws ≡ Some done
 unfolding steps_of
 acted-all ws done so = sym so ∙ ap Some (append-nil done)
+
+pub limit-out : (ss : List Step) → (length ss ≡ 0) ⊎ (64 < length ss) → limited (Some ss) ≡ None
+limit-out ss (inl e) = cond-false _ _ _ (and_left (leb 1 (length ss)) (leb (length ss) 64) (lt-leb 1 (length ss) (omega arith)))
+limit-out ss (inr h) = cond-false _ _ _ (and_right (leb 1 (length ss)) (leb (length ss) 64) (lt-leb (length ss) 64 h))
 
 pub limit-in : (ss : List Step) → (length ss ≡ 0 → ⊥) → length ss ≤ 64 → limited (Some ss) ≡ Some ss
 limit-in ss e h = cond-true _ _ _ (and_from _ _ (le-leb 1 (length ss) (omega arith)) (le-leb (length ss) 64 h))

@@ -19,6 +19,7 @@ use Rattle.command.specs.declared.kinds.Command.{Command}
 use Rattle.script.specs.Answers.{Script, Numbered}
 use Rattle.script.specs.declared.reader.Unreadable.{Unreadable}
 use Rattle.script.specs.declared.reader.Unreadable.TheVariants.{Line, NoMemory}
+use Rattle.token.specs.Words.{words_of}
 use Rattle.script.specs.Lines.{line_of, lines_of, then, from_line}
 
 -- commands that come before others
@@ -63,6 +64,12 @@ placed ls k n l h =
 pub numbered-lines : {F : Type 0} (g : Mut F (Bor ℕ × Unit {0}) Bool) {f : F} (text : List ℕ) (split : Split ℕ F) (numbered it : Enumerate (Split ℕ F)) → split_rest split ≡ text → split_done split ≡ false → split_callee split ≡ f → ((x : ℕ) (b : Bool) (q : F) → CalledAt g f x b q → (q ≡ f) × (b ≡ eqb x 10)) → enumerate_source numbered ≡ split → enumerate_count numbered ≡ 0 → it ≡ numbered → YieldsList (enumerate_steps (split_steps g)) (λ p. (p.0, p.1.now)) it (enumerate_from 0 (lines_of text))
 numbered-lines g text split numbered it rest done callee test source count same =
     YieldsList-at same (YieldsList-from_enumerate (YieldsList-at source (YieldsList-from_slice_split g (λ b. eqb b 10) text rest done callee test)) count)
+
+-- a bad line has a byte
+pub bad-some : (l : List ℕ) → line_of l ≡ None → 0 < length l
+unfolding words_of
+bad-some [] e = absurd cc
+bad-some (b ∷ bs) e = omega arith
 
 -- the exit of a `?` in a reader of a script
 pub script-broken : (r : Result (Vec Command Global) Unreadable) (e : Unreadable) (n : ℕ) (said : Option (Option Order)) (script : Result (List Order) ℕ) → IsErrAnd r (λ y. y ≡ e) → Numbered n said (Err e) → (said ≡ None → script ≡ Err n) → Script r script

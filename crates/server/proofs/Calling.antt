@@ -3,7 +3,7 @@ use Rattle.std.proofs.Common.{◌≡◌, ℕ, suc, ◌<◌, Bool, true, false, c
 use Rattle.std.proofs.lemmas.Bool.{cond-true, cond-false, and_parts, and_from}
 use Rattle.std.specs.List.{list_all}
 use Rattle.model.specs.Keyed.{is_in}
-use Rattle.model.specs.Messages.{Rules, Programs, ToServer, Login, For, Request, Run, ToClient, Did, did, Fault, NeverStarted, TooManyTries, real}
+use Rattle.model.specs.Messages.{Rules, Programs, ToServer, Login, Tick, For, Request, Run, Input, OutputCredit, Eof, Close, ToClient, Did, did, Fault, NeverStarted, TooManyTries, real}
 use Rattle.model.specs.Server.{Server, ServerChannel, flush_back, receive_by, pass_to, is_refused, channel_of, may_run, turn_of, cut_server}
 use Rattle.server_channel.specs.declared.Channel.{Channel}
 use Rattle.server_channel.specs.Kept.{heard, quiet}
@@ -22,7 +22,7 @@ use Rattle.message.specs.declared.fault.Fault.TheVariants as many
 use Rattle.server.specs.Whole.{fault_of}
 use Rattle.server.specs.Calls.{Under, Does, Does', Faulty, Faulty', Takes, Takes', Passes', may_user, fault_in, login_fault, pass_fault, fault_by}
 use Rattle.server.proofs.Finishing.{finished, bare, silent-owes, silent-quiet}
-use Rattle.server.proofs.Happening.{login-meets, cut-meets, start-meets, took-meets, fault-meets, dropped-meets, dropped-none, unknown, unknown-meets, turn-meets, no-turn-meets}
+use Rattle.server.proofs.Happening.{login-meets, cut-meets, still-meets, start-meets, took-meets, fault-meets, dropped-meets, dropped-none, unknown, unknown-meets, turn-meets, no-turn-meets}
 use Rattle.server.proofs.Standing.{found}
 use Rattle.server.proofs.Hearing.{hears-same, on_ok, became}
 
@@ -66,6 +66,9 @@ module _ {S E : Type 0} (granted : Grants) (p : Programs S E) where
     fault = record { found = λ a m n x xs used f. login-fault v e u q xs used a m n (granted.accepts u q) (x.accepted u q) v.user };
   }
 
+  pub takes-tick : (v : View S) (e : E) → Takes' granted p Tick v e None (telling None v) e
+  takes-tick v e = record { does = record { meets = λ a m n x xs used f. still-meets a m p v e xs used f }; fault = record { found = λ a m n x xs used f. refl } }
+
   may-same : (a : ℕ → ℕ → List ℕ → Bool) (m : ℕ → ℕ → Bool) (n : ℕ) → Under granted a m n → (k : ℕ) (us : Option ℕ) → may_run (real a m) k us ≡ may_user granted.may us k
   may-same a m n x k None = refl
   may-same a m n x k (Some u) = x.allowed u k
@@ -75,6 +78,14 @@ module _ {S E : Type 0} (granted : Grants) (p : Programs S E) where
     does = record { meets = λ a m n x xs used f. start-meets a m p v e xs used f t k b l (may-same a m n x k v.user ∙ y) };
     fault = record { found = λ a m n x xs used f. refl };
   }
+
+  -- a message for a channel, but a start
+  pub takes-other : (t : ℕ) (q : Request) (v w : View S) (e e' : E) (o : Option Fault) → ((k : ℕ) → q ≡ Run k → ⊥) → Passes' granted t q v e o w e' → Takes' granted p (For t q) v e o w e'
+  takes-other t (Run k) v w e e' o h x = absurd (h k refl)
+  takes-other t (Input bs) v w e e' o h x = record { does = record { meets = x.does.meets }; fault = record { found = λ a m n u xs used f. x.fault a m xs used f } }
+  takes-other t (OutputCredit k) v w e e' o h x = record { does = record { meets = x.does.meets }; fault = record { found = λ a m n u xs used f. x.fault a m xs used f } }
+  takes-other t Eof v w e e' o h x = record { does = record { meets = x.does.meets }; fault = record { found = λ a m n u xs used f. x.fault a m xs used f } }
+  takes-other t Close v w e e' o h x = record { does = record { meets = x.does.meets }; fault = record { found = λ a m n u xs used f. x.fault a m xs used f } }
 
 -- at a server that is up
 module _ {S E : Type 0} (granted : Grants) (p : Programs S E) (ks : List (Channel S)) (nx : ℕ) (h : ℕ → Bool) (us : Option ℕ) (tr : ℕ) (tl : Option Notice) (e : E) where
@@ -117,11 +128,11 @@ module _ {S E : Type 0} (granted : Grants) (p : Programs S E) (ks : List (Channe
   }
 
 module _ {S E : Type 0} (granted : Grants) (p : Programs S E) (v : View S) (e : E) (up : v.up ≡ true) where
-  passes-took : (t i : ℕ) (q : Request) (w : View S) → Finds t v.channels (Some i) → TakesAt q i v w → Passes' granted t q v e None w e
+  pub passes-took : (t i : ℕ) (q : Request) (w : View S) → Finds t v.channels (Some i) → TakesAt q i v w → Passes' granted t q v e None w e
   passes-took = let P : Bool → Type 0 = λ b. (t i : ℕ) (q : Request) (w : View S) → Finds t v.channels (Some i) → TakesAt q i (seen.view v.channels v.next v.is_used v.user v.tries b v.told) w → Passes' granted t q (seen.view v.channels v.next v.is_used v.user v.tries b v.told) e None w e in
       subst P (sym up) (took-up granted p v.channels v.next v.is_used v.user v.tries v.told e)
 
-  passes-fault : (t i : ℕ) (q : Request) (z : Fault) (w : View S) → Finds t v.channels (Some i) → FaultsAt q i v z w → Passes' granted t q v e (Some z) w e
+  pub passes-fault : (t i : ℕ) (q : Request) (z : Fault) (w : View S) → Finds t v.channels (Some i) → FaultsAt q i v z w → Passes' granted t q v e (Some z) w e
   passes-fault = let P : Bool → Type 0 = λ b. (t i : ℕ) (q : Request) (z : Fault) (w : View S) → Finds t v.channels (Some i) → FaultsAt q i (seen.view v.channels v.next v.is_used v.user v.tries b v.told) z w → Passes' granted t q (seen.view v.channels v.next v.is_used v.user v.tries b v.told) e (Some z) w e in
       subst P (sym up) (fault-up granted p v.channels v.next v.is_used v.user v.tries v.told e)
 
@@ -188,3 +199,6 @@ module _ {S E : Type 0} (granted : Grants) (p : Programs S E) (v w : View S) (e 
 
   pub unknown-left : (t : ℕ) (q : Request) → v.up ≡ true → t < 65536 → Finds t v.channels None → v.is_used t ≡ false → w ≡ cut_down v → Passes' granted t q v e (Some NeverStarted) w e
   unknown-left t q u l g y x = subst (λ z. Passes' granted t q v e (Some NeverStarted) z e) (sym x) (passes-unknown granted p v e u t q l g y)
+
+  pub tick-left : silent v ≡ true → w ≡ v → Takes' granted p Tick v e None w e
+  tick-left s x = subst (λ z. Takes' granted p Tick v e None z e) (still granted p v e s ∙ sym x) (takes-tick granted p v e)

@@ -12,7 +12,7 @@ use Rattle.server.specs.Stands.{Stand, none, past, held, Used, StandsFor}
 use Rattle.server.specs.Calls.{Begins}
 
 module _ {S : Type 0} {up : Bool} {Good : ℕ → Type 0} where
-  all-forgotten : {lo : ℕ} {xs : List (ServerChannel S)} (ks : List (Channel S)) → Stand up Good lo ks xs → every (λ x. x.forgotten) xs ≡ eqb (length ks) 0
+  pub all-forgotten : {lo : ℕ} {xs : List (ServerChannel S)} (ks : List (Channel S)) → Stand up Good lo ks xs → every (λ x. x.forgotten) xs ≡ eqb (length ks) 0
   unfolding every
   all-forgotten ks none = refl
   all-forgotten ks (past h a g st) = λ i. h i && all-forgotten ks st i

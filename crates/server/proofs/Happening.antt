@@ -80,6 +80,13 @@ module _ {S E : Type 0} (a : ℕ → ℕ → List ℕ → Bool) (m : ℕ → ℕ
       go Eof o' = record { channels = change number_at (number_in (get_or ks i d)) (λ _. whole true l (found d i b f.stand).0) xs; used = used; fits = record { stand = put d i l (found d i b f.stand).0 b (same_number Eof (get_or ks i d) l o') f.stand; uses = f.uses }; does = refl }
       go Close o' = record { channels = change number_at (number_in (get_or ks i d)) (λ _. forgot (whole true (get_or ks i d) (found d i b f.stand).0)) xs; used = used; fits = record { stand = removed d i (forgot (whole true (get_or ks i d) (found d i b f.stand).0)) b refl refl f.stand; uses = f.uses }; does = refl }
 
+  -- which fault the model finds
+  pub fault-found : (d : Channel S) (i : ℕ) (q : Request) (g : Fault) → Fits v₀ xs used → i < length ks → heard q (get_or ks i d) ≡ Err g → pass_to (real a m) (number_in (get_or ks i d)) q (channel_of (number_in (get_or ks i d)) s₀) s₀ ≡ Err g
+  fault-found d i q g f b o =
+      let k = get_or ks i d in
+      let r = found d i b f.stand in
+      (λ j. pass_to (real a m) (number_in k) q (r.1 j) s₀) ∙ (hears-same a m q k r.0 ∙ ap (on_ok (became q k r.0)) o)
+
   pub fault-meets : (d : Channel S) (i : ℕ) (q : Request) (g : Fault) → Fits v₀ xs used → i < length ks → heard q (get_or ks i d) ≡ Err g → Meets (pass (real a m) (number_in (get_or ks i d)) q s₀) (cut_down v₀) e
   fault-meets d i q g f b o =
       let k = get_or ks i d in

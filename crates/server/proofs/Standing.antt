@@ -21,6 +21,12 @@ cut_past k p = record { command = p.command; user = p.user; state = p.state; wen
 
 module _ {S : Type 0} {up : Bool} {Good : ℕ → Type 0} where
   -- a number below all
+  pub find-below : {lo : ℕ} {ks : List (Channel S)} {xs : List (ServerChannel S)} (t : ℕ) → t < lo → Stand up Good lo ks xs → find number_at t xs ≡ None
+  unfolding find
+  find-below t l none = refl
+  find-below t l (past {x = x} f a g st) = cond-false _ _ _ (ne_eqb x.number t (λ e. omega arith)) ∙ find-below t (omega arith) st
+  find-below t l (held {k = k} {x = x} p e a g st) = let n : x.number ≡ number_in k = ap (λ z. z.number) e in cond-false _ _ _ (ne_eqb x.number t (λ q. omega arith)) ∙ find-below t (omega arith) st
+
   pub change-below : {lo : ℕ} {ks : List (Channel S)} {xs : List (ServerChannel S)} (t : ℕ) (f : ServerChannel S → ServerChannel S) → t < lo → Stand up Good lo ks xs → change number_at t f xs ≡ xs
   unfolding change
   change-below t f l none = refl

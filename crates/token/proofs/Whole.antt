@@ -1,12 +1,14 @@
 -- Words that stay together in a line: no byte of them ends a word or a line, and no quote stays open.
 use Rattle.std.proofs.Common.{◌≡◌, ℕ, ◌<◌, Bool, true, false, not, ◌&&◌, eqb, List, [], ◌∷◌, ◌++◌, length, Some, sym, refl, ap, ◌∙◌, append_assoc, append-nil, arith}
+use Rattle.std.specs.Option.{option_map}
 use Rattle.std.specs.List.{All, AllByRecursion}
 use Rattle.std.proofs.lemmas.Bool.{cond-false, and_parts, and_from, not-true, true≢false}
 use Rattle.std.proofs.lemmas.List.Elements.{All-nil, All-cons, All-append}
 use Rattle.token.specs.declared.mode.Mode.{Mode}
 use Rattle.token.specs.declared.mode.Mode.TheVariants.{Plain, Quoted, Escaped}
 use Rattle.token.specs.Written.{spaced_of, unwords_of}
-use Rattle.token.specs.Words.{begun, ends_word, after_byte, words_of}
+use Rattle.token.specs.Words.{after, begun, cut_at, ends_word, after_byte, words_of}
+use Rattle.token.proofs.Cuts.{after-after, cut-none}
 use Rattle.token.proofs.Scan.{led}
 
 abbrev pub shut : Mode → Bool
@@ -37,6 +39,15 @@ scan-whole m w (b ∷ v) rest h =
     let p = and_parts (not (eqb b 10)) _ h in
     let q = and_parts (not (ends_word m b)) _ p.1 in
     cond-false _ _ _ (not-true _ q.0) ∙ scan-whole (after_byte m b) (w ++ b ∷ []) v rest q.1 ∙ ap (λ l. words_of Plain l rest) (append_assoc w (b ∷ []) v)
+
+-- a cut into lines too
+pub cut-whole : (m : Mode) (v rest : List ℕ) → whole_of m v ≡ true → cut_at 10 (v ++ rest) ≡ option_map (after v) (cut_at 10 rest)
+unfolding cut_at
+cut-whole m [] rest h = sym (cut-none (cut_at 10 rest))
+cut-whole m (b ∷ v) rest h =
+    let p = and_parts (not (eqb b 10)) _ h in
+    let q = and_parts (not (ends_word m b)) _ p.1 in
+    cond-false _ _ _ (not-true _ p.0) ∙ ap (option_map (after (b ∷ []))) (cut-whole (after_byte m b) v rest q.1) ∙ after-after (b ∷ []) v (cut_at 10 rest)
 
 -- no byte of it ends a line
 abbrev pub Within : ℕ → Type 0
@@ -75,3 +86,19 @@ one-spaced (v ∷ vs) k = All-cons Within 32 _ refl (All-append Within v (spaced
 
 pub unwords_line : (w : List ℕ) (ws : List (List ℕ)) → Kept w → AllByRecursion Kept ws → OneLine (unwords_of (w ∷ ws))
 unwords_line w ws h k = All-append Within w (spaced_of ws) (one-line Plain w h.0) (one-spaced ws k)
+
+cut-spaced : (ws : List (List ℕ)) (rest : List ℕ) → AllByRecursion Kept ws → cut_at 10 (spaced_of ws ++ rest) ≡ option_map (after (spaced_of ws)) (cut_at 10 rest)
+unfolding cut_at
+cut-spaced [] rest k = sym (cut-none (cut_at 10 rest))
+cut-spaced (v ∷ vs) rest k =
+    ap (option_map (after (32 ∷ []))) (ap (cut_at 10) (append_assoc v (spaced_of vs) rest) ∙ cut-whole Plain v (spaced_of vs ++ rest) k.0.0 ∙ ap (option_map (after v)) (cut-spaced vs rest k.1) ∙ after-after v (spaced_of vs) (cut_at 10 rest))
+    ∙ after-after (32 ∷ []) (v ++ spaced_of vs) (cut_at 10 rest)
+
+pub cut-back : (w : List ℕ) (ws : List (List ℕ)) (rest : List ℕ) → Kept w → AllByRecursion Kept ws → cut_at 10 (unwords_of (w ∷ ws) ++ 10 ∷ rest) ≡ Some (unwords_of (w ∷ ws), rest)
+unfolding cut_at
+cut-back w ws rest h k =
+    ap (cut_at 10) (append_assoc w (spaced_of ws) (10 ∷ rest))
+    ∙ cut-whole Plain w (spaced_of ws ++ 10 ∷ rest) h.0
+    ∙ ap (option_map (after w)) (cut-spaced ws (10 ∷ rest) k)
+    ∙ after-after w (spaced_of ws) (cut_at 10 (10 ∷ rest))
+    ∙ ap (λ l. Some (l, rest)) (append-nil (w ++ spaced_of ws))

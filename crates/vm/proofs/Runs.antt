@@ -6,6 +6,7 @@ use Rattle.bytecode.specs.declared.instruction.Instruction.{Instruction}
 use Rattle.bytecode.specs.declared.instruction.Instruction.TheVariants.{Const, Move, Add, Compare, Jump, JumpLess, JumpEqual, Load, Store, Read, Write, End, GoOn}
 use Rattle.vm.specs.Step.{execute, ends_turn}
 use Rattle.vm.specs.Turn.{stops_at, step_at, stops, stepped, runs}
+use Rattle.vm.specs.Ends.{complete, complete_at, resumed}
 
 runs-stop : (n : ℕ) (c : List Instruction) (m : Machine) → stops c m ≡ true → runs n c m ≡ m
 unfolding runs
@@ -55,3 +56,29 @@ module _ (n : ℕ) (c : List Instruction) (m w : Machine) (i : Instruction) (at 
   ran-more k l f =
       let t : ends_turn i ≡ false = turned (ends_turn i) goes g ∙ ap not f in
       ap (runs k c) (after ∙ sym (ap (λ o. step_at o m) at)) ∙ sym (runs-more k c m (ap stops_at at ∙ t)) ∙ ap (λ j. runs j c m) (sym (l ∙ add-one k)) ∙ e
+
+-- outside the row a turn changes nothing
+pub resumed-out : (c : List Instruction) (bytes : List ℕ) (eof : Bool) (m : Machine) → slice_get c m.counter ≡ None → m ≡ resumed c bytes eof m
+resumed-out c bytes eof m e = sym (ap (λ o. runs 9999 c (complete_at o bytes eof m)) e ∙ runs-stop 9999 c m (ap stops_at e))
+
+plainly : (i : Instruction) (bytes : List ℕ) (eof : Bool) (m : Machine) → ends_turn i ≡ false → complete i bytes eof m ≡ execute i m
+plainly (Const a n) bytes eof m e = refl
+plainly (Move a b) bytes eof m e = refl
+plainly (Add a b c) bytes eof m e = refl
+plainly (Compare a b) bytes eof m e = refl
+plainly (Jump to) bytes eof m e = refl
+plainly (JumpLess to) bytes eof m e = refl
+plainly (JumpEqual to) bytes eof m e = refl
+plainly (Load a b) bytes eof m e = refl
+plainly (Store a b) bytes eof m e = refl
+plainly (Read a b c) bytes eof m e = cc
+plainly (Write a b) bytes eof m e = cc
+plainly (End a) bytes eof m e = cc
+plainly GoOn bytes eof m e = cc
+
+-- an instruction that does not end a turn is the first of the next
+pub resumed-on : (c : List Instruction) (bytes : List ℕ) (eof : Bool) (m m' w : Machine) (i : Instruction) → slice_get c m.counter ≡ Some i → ends_turn i ≡ false →
+    m' ≡ cond (ends_turn i) (complete i bytes eof m) m → w ≡ runs 10000 c m' → w ≡ resumed c bytes eof m
+resumed-on c bytes eof m m' w i at e f g =
+    g ∙ ap (runs 10000 c) (f ∙ ap (λ b. cond b (complete i bytes eof m) m) e) ∙ runs-more 9999 c m (ap stops_at at ∙ e) ∙
+    ap (λ o. runs 9999 c (step_at o m)) at ∙ ap (runs 9999 c) (sym (plainly i bytes eof m e)) ∙ ap (λ o. runs 9999 c (complete_at o bytes eof m)) (sym at)
