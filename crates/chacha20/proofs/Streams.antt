@@ -10,7 +10,9 @@ use Rattle.chacha20.proofs.Bytes.{xored-as, xored-four}
 -- no block on
 pub advance-none : (s : State ℕ) → s.x12 < 2 ^ 32 → s ≡ Advance 0 s
 unfolding Advance
-advance-none s h = let e : s.x12 ≡ (s.x12 + 0) % 2 ^ 32 = omega arith in cc
+advance-none s h =
+    let e : s.x12 ≡ (s.x12 + 0) % 2 ^ 32 = omega arith in λ i.
+    record { x0 = s.x0; x1 = s.x1; x2 = s.x2; x3 = s.x3; x4 = s.x4; x5 = s.x5; x6 = s.x6; x7 = s.x7; x8 = s.x8; x9 = s.x9; x10 = s.x10; x11 = s.x11; x12 = e i; x13 = s.x13; x14 = s.x14; x15 = s.x15 }
 
 -- the byte of a block, by its number in four blocks
 quad-byte : (f : ℕ → List ℕ) (w : List ℕ) (l k i : ℕ) → w ≡ f l → k / 64 ≡ l → k % 64 ≡ i → ByteAt w i ≡ ByteAt (f (k / 64)) (k % 64)
