@@ -1,6 +1,5 @@
 -- What each instruction does to the machine, line by line as docs/MACHINE.md has it. Assumes nothing.
-use Rattle.std.specs.Prelude.{ℕ, ◌+◌, ◌%◌, Bool, true, false, if◌then◌else◌, slice_index, slice_set}
-use Rattle.std.specs.Ordering.{nat_cmp, is_lt, is_eq}
+use Rattle.std.specs.Prelude.{ℕ, ◌+◌, ◌%◌, Bool, true, false, if◌then◌else◌, ◌==◌, nat_lt, slice_index, slice_set}
 use Rattle.bytecode.specs.declared.register.Register.{Register}
 use Rattle.vm.specs.declared.machine.Machine.{Machine}
 use Rattle.bytecode.specs.declared.instruction.Instruction.{Instruction}
@@ -22,7 +21,7 @@ stored at b m = record m { memory = slice_set m.memory (at % 256) b }
 
 -- what a comparison found
 abbrev pub compared : ℕ → ℕ → Machine → Machine
-compared x y m = record m { found = nat_cmp x y }
+compared x y m = record m { less = nat_lt x y; equal = (x == y) }
 
 -- to a place, and to the instruction behind this one
 abbrev pub jump : ℕ → Machine → Machine
@@ -41,8 +40,8 @@ execute (Move a b) m = onward (put a (get b m) m)
 execute (Add a b c) m = onward (put a ((get b m + get c m) % 0x1_0000_0000) m)
 execute (Compare a b) m = onward (compared (get a m) (get b m) m)
 execute (Jump to) m = jump to m
-execute (JumpLess to) m = jumped (is_lt m.found) to m
-execute (JumpEqual to) m = jumped (is_eq m.found) to m
+execute (JumpLess to) m = jumped m.less to m
+execute (JumpEqual to) m = jumped m.equal to m
 execute (Load a b) m = onward (put a (byte_at (get b m) m) m)
 execute (Store a b) m = onward (stored (get b m) (get a m % 256) m)
 execute (Read a b c) m = m

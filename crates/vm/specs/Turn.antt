@@ -1,14 +1,13 @@
 -- A turn of a program: its instructions one by one, up to the one that ends it. Assumes nothing.
-use Rattle.std.specs.Prelude.{ℕ, zero, suc, Bool, true, if◌then◌else◌, List, replicate, Some, None, Option}
+use Rattle.std.specs.Prelude.{ℕ, zero, suc, Bool, true, false, if◌then◌else◌, List, replicate, Some, None, Option}
 use Rattle.std.specs.List.{slice_get}
-use Rattle.std.specs.declared.cmp.Ordering.TheVariants.{Greater}
 use Rattle.vm.specs.declared.machine.Machine.{Machine}
 use Rattle.bytecode.specs.declared.instruction.Instruction.{Instruction}
 use Rattle.vm.specs.Step.{execute, ends_turn}
 
--- all registers and bytes are 0, the first instruction comes next, and nothing was found less or equal
+-- all registers and bytes are 0, no comparison has found anything, and the first instruction comes next
 abbrev pub fresh : Machine
-fresh = record { registers = replicate 16 0; memory = replicate 256 0; counter = 0; found = Greater }
+fresh = record { registers = replicate 16 0; memory = replicate 256 0; counter = 0; less = false; equal = false }
 
 -- at a place outside the row nothing can be done
 abbrev pub stops_at : Option Instruction → Bool

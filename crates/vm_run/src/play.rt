@@ -97,9 +97,8 @@ impl<'a> Play<'a> {
         }
         self.digest.feed(&machine.memory);
         self.digest.word(machine.counter);
-        let found = machine.found;
         self.digest
-            .feed(&[u8::from(found.is_lt()), u8::from(found.is_eq())]);
+            .feed(&[u8::from(machine.less), u8::from(machine.equal)]);
     }
 }
 

@@ -44,19 +44,23 @@ impl Machine {
             Instruction::Const(a, n) => self.put(a, n),
             Instruction::Move(a, b) => self.put(a, self.get(b)),
             Instruction::Add(a, b, c) => self.put(a, self.get(b).wrapping_add(self.get(c))),
-            Instruction::Compare(a, b) => self.found = self.get(a).cmp(&self.get(b)),
+            Instruction::Compare(a, b) => {
+                let (x, y) = (self.get(a), self.get(b));
+                self.less = x < y;
+                self.equal = x == y;
+            }
             Instruction::Jump(to) => {
                 self.counter = to;
                 return true;
             }
             Instruction::JumpLess(to) => {
-                if self.found.is_lt() {
+                if self.less {
                     self.counter = to;
                     return true;
                 }
             }
             Instruction::JumpEqual(to) => {
-                if self.found.is_eq() {
+                if self.equal {
                     self.counter = to;
                     return true;
                 }

@@ -7,7 +7,6 @@ ghost use Rattle.vm.specs.Ends.{asks_in, resumed};
 use crate::code::Code;
 use crate::machine::Machine;
 use programs::programs::Action;
-use std::cmp::Ordering;
 
 // A turn has at most so many instructions.
 const MOST: u16 = 10000;
@@ -24,7 +23,8 @@ impl Machine {
             registers: [0; 16],
             memory: [0; 256],
             counter: 0,
-            found: Ordering::Greater,
+            less: false,
+            equal: false,
         }
     }
 
