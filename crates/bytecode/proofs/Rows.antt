@@ -9,7 +9,7 @@ use Rattle.bytecode.specs.Encoding.{encoded, low, guessed}
 abbrev register : (n : ℕ) → n < 16 → Register
 register n h = record { number = n; ok = h }
 
-same_number : (n m : ℕ) (h : n < 16) (k : m < 16) → n ≡ m → register n h ≡ register m k
+pub same_number : (n m : ℕ) (h : n < 16) (k : m < 16) → n ≡ m → register n h ≡ register m k
 same_number n m h k e = subst (λ v. (j : v < 16) → register n h ≡ register v j) e (λ j. ap (register n) (le_prop h j)) k
 
 pub low_of : (a : Register) → low a.number ≡ a

@@ -8,12 +8,12 @@ use Rattle.vm.specs.Step.{execute, ends_turn}
 use Rattle.vm.specs.Turn.{stops_at, step_at, stops, stepped, runs}
 use Rattle.vm.specs.Ends.{complete, complete_at, resumed}
 
-runs-stop : (n : ℕ) (c : List Instruction) (m : Machine) → stops c m ≡ true → runs n c m ≡ m
+pub runs-stop : (n : ℕ) (c : List Instruction) (m : Machine) → stops c m ≡ true → runs n c m ≡ m
 unfolding runs
 runs-stop zero c m e = refl
 runs-stop (suc n) c m e = ap (λ b. cond b m (runs n c (stepped c m))) e
 
-runs-more : (k : ℕ) (c : List Instruction) (m : Machine) → stops c m ≡ false → runs (suc k) c m ≡ runs k c (stepped c m)
+pub runs-more : (k : ℕ) (c : List Instruction) (m : Machine) → stops c m ≡ false → runs (suc k) c m ≡ runs k c (stepped c m)
 unfolding runs
 runs-more k c m e = ap (λ b. cond b m (runs k c (stepped c m))) e
 
