@@ -1,10 +1,10 @@
 -- What is in a set after a change.
-use Rattle.std.proofs.Common.{◌≡◌, ℕ, zero, suc, ◌+◌, ◌<◌, ◌≤◌, min, Bool, true, false, cond, not, ◌&&◌, ◌||◌, eqb, ltb, ◌⊎◌, List, length, Some, None, sym, refl, ap, ◌∙◌, subst, inl, inr, ⊎_elim, add-one, arith}
+use Rattle.std.proofs.Common.{◌≡◌, ℕ, zero, suc, ◌+◌, ◌-◌, ◌<◌, ◌≤◌, min, Bool, true, false, cond, not, ◌&&◌, ◌||◌, eqb, ltb, ◌⊎◌, List, length, Some, None, sym, refl, ap, ◌∙◌, subst, inl, inr, ⊎_elim, add-one, arith}
 use Rattle.std.proofs.lemmas.List.{length-replicate}
 use Rattle.std.proofs.lemmas.Bool.{cases_order, eq-eqb, ne_eqb, eqb-true, both_ways, not-true, ltb-true, ltb-false, cases_Bool, lt-ltb, le-ltb}
 use Rattle.std.proofs.lemmas.Bool.Decides.{nat_tests}
 use Rattle.blocks.specs.Sets.{has, with, none, tally, first, is_free, lowest}
-pub use Rattle.bits.proofs.Member.{has-with, length-with, has-none}
+pub use Rattle.bits.proofs.Member.{has-with, has-union, length-with, has-none}
 
 -- tests that agree below n
 abbrev pub Alike : (ℕ → Bool) → (ℕ → Bool) → ℕ → Type 0
@@ -121,6 +121,16 @@ pub lowest-more : (u : ℕ → Bool) (m n : ℕ) → lowest u m (n + 1) ≡ cond
 unfolding lowest
 lowest-more u m n = ap (lowest u m) (add-one n)
 
+pub first_more : (p : ℕ → Bool) (end k : ℕ) → k < end → first p (end - k) k ≡ cond (p k) (Some k) (first p (end - (k + 1)) (k + 1))
+unfolding first
+first_more p end k h =
+    let e : end - k ≡ suc (end - (k + 1)) = omega arith in
+    ap (λ (n : ℕ). first p n k) e ∙ ap (λ (j : ℕ). cond (p k) (Some k) (first p (end - (k + 1)) j)) (sym (add-one k))
+
+pub first-none : (p : ℕ → Bool) (end k : ℕ) → end ≤ k → first p (end - k) k ≡ None
+unfolding first
+first-none p end k h = let e : end - k ≡ 0 = omega arith in ap (λ (n : ℕ). first p n k) e
+
 -- what is found: it passes, it lies in between, and none before it does
 pub record Found (p : ℕ → Bool) (n k b : ℕ) : Type 0 where
   pub passes : p b ≡ true
@@ -179,3 +189,9 @@ tally-yes p n e = tally-more p n ∙ ap (λ (b : Bool). tally p n + cond b 1 0) 
 
 pub tally-no : (p : ℕ → Bool) (n : ℕ) → p n ≡ false → tally p (n + 1) ≡ tally p n
 tally-no p n e = tally-more p n ∙ ap (λ (b : Bool). tally p n + cond b 1 0) e ∙ omega arith
+
+pub first-yes : (p : ℕ → Bool) (end k : ℕ) → k < end → p k ≡ true → first p (end - k) k ≡ Some k
+first-yes p end k h e = first_more p end k h ∙ ap (λ (b : Bool). cond b (Some k) (first p (end - (k + 1)) (k + 1))) e
+
+pub first-no : (p : ℕ → Bool) (end k : ℕ) → k < end → p k ≡ false → first p (end - k) k ≡ first p (end - (k + 1)) (k + 1)
+first-no p end k h e = first_more p end k h ∙ ap (λ (b : Bool). cond b (Some k) (first p (end - (k + 1)) (k + 1))) e

@@ -37,15 +37,6 @@ impl Set {
         bits::insert(&mut self.bits, k);
     }
 
-    // The set with one more number.
-    fn and(mut self, k: usize) -> Set
-        requires { k < 2048 }
-        ensures { result ≡ record { bits = with self.bits k } }
-    {
-        self.insert(k);
-        self
-    }
-
     // Takes in all that another set has.
     pub fn join(&mut self, other: &Set)
         ensures { (k : ℕ) → k < 2048 → has self.new.bits k ≡ (has self.old.bits k || has other.now.bits k) }
@@ -71,10 +62,13 @@ impl Set {
     pub fn lowest_free(&self, many: usize) -> Option<Set>
         ensures { result ≡ (if nat_le many (tally (is_free (has self.now.bits)) 2048) then Some (record { bits = lowest (has self.now.bits) many 2048 }) else None) }
     {
-        let taken = (0..BLOCKS)
-            .filter(|k| !self.has(*k))
-            .take(many)
-            .fold(Set::empty(), |taken, k| taken.and(k));
-        (taken.count() == many).then_some(taken)
+        let mut taken = Set::empty();
+        let mut count = 0;
+        // Kept: a for, since a fold would move the set at each number.
+        for k in (0..BLOCKS).filter(|k| !self.has(*k)).take(many) {
+            taken.insert(k);
+            count += 1;
+        }
+        (count == many).then_some(taken)
     }
 }
