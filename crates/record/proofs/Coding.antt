@@ -175,6 +175,10 @@ pub senseless : (y : List ℕ) → makes_sense (guess y) ≡ false → decode y 
 unfolding decode
 senseless y e = ap (λ (b : Bool). chosen (b && same (encode (guess y)) y) (guess y)) e
 
+pub misfit : (y : List ℕ) → same (encode (guess y)) y ≡ false → decode y ≡ None
+unfolding decode
+misfit y e = ap (λ (b : Bool). chosen b (guess y)) (and_right (makes_sense (guess y)) (same (encode (guess y)) y) e)
+
 pub fitting : (y : List ℕ) → makes_sense (guess y) ≡ true → same (encode (guess y)) y ≡ true → decode y ≡ Some (guess y)
 unfolding decode
 fitting y e f = ap (λ (b : Bool). chosen b (guess y)) (and_from (makes_sense (guess y)) (same (encode (guess y)) y) e f)

@@ -30,6 +30,18 @@ unfolding every
 every-all p [] = refl
 every-all p (x ∷ xs) = ap (λ (b : Bool). p x && b) (every-all p xs)
 
+pub every-stop : (p : ℕ → Bool) (x : ℕ) (xs : List ℕ) → p x ≡ false → every p (x ∷ xs) ≡ false
+unfolding every
+every-stop p x xs e = ap (λ (b : Bool). b && every p xs) e
+
+pub every-on : (p : ℕ → Bool) (x : ℕ) (xs : List ℕ) → p x ≡ true → every p (x ∷ xs) ≡ every p xs
+unfolding every
+every-on p x xs e = ap (λ (b : Bool). b && every p xs) e
+
+pub every-nil : (p : ℕ → Bool) → every p [] ≡ true
+unfolding every
+every-nil p = refl
+
 pub bytes-in : (bs all : List ℕ) → length bs ≤ 32 → all ≡ take 0 (replicate 32 0) ++ (bs ++ drop (0 + length bs) (replicate 32 0)) → all ≡ (named bs).bytes
 bytes-in bs all h e =
     let z : 0 + length bs ≡ length bs = omega arith in
