@@ -3,7 +3,7 @@ ghost use Rattle.std.specs.Prelude.{◌≡◌, ℕ, ◌+◌, ◌<◌, replicate,
 ghost use Rattle.blocks.specs.Sets.{has, tally};
 ghost use Rattle.record.specs.Names.{name_of};
 ghost use Rattle.opened.specs.Opened.{record_of};
-ghost use Rattle.store.specs.Leases.{lease, used, unused, Sound, put_place, put_set, with_lease};
+ghost use Rattle.store.specs.Leases.{lease, in_lease, used, unused, Sound, put_place, put_set, with_lease};
 ghost use Rattle.store.specs.Stores.{get_next, piece_at, get_answer, get_leases};
 ghost use Rattle.store.specs.declared.lease.Lease.TheVariants.{Put};
 
@@ -35,22 +35,31 @@ impl<D: Disk> Store<D> {
     }
 
     // A place with nothing under way.
-    fn unused(&self) -> Option<usize>
+    pub fn unused(&self) -> Option<usize>
         ensures place { result ≡ unused self.now.leases }
         ensures within { IfSome result (λ t. t < 16) }
     {
         self.leases.iter().position(|lease| lease.is_none())
     }
 
-    fn used(&self) -> Set
-        ensures { (b : ℕ) → b < 2048 → has result.bits b ≡ used (D.meaning.block self.now.disk) self.now.leases b }
+    // All blocks that are under way.
+    pub fn leased(&self) -> Set
+        ensures { (b : ℕ) → b < 2048 → has result.bits b ≡ in_lease self.now.leases b }
     {
-        let mut all = used(&self.disk);
+        let mut all = Set::empty();
         for place in &self.leases {
             if let Some(lease) = place {
                 all.join(&lease.blocks());
             }
         }
+        all
+    }
+
+    fn used(&self) -> Set
+        ensures { (b : ℕ) → b < 2048 → has result.bits b ≡ used (D.meaning.block self.now.disk) self.now.leases b }
+    {
+        let mut all = used(&self.disk);
+        all.join(&self.leased());
         all
     }
 

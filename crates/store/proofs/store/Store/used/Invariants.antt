@@ -1,9 +1,0 @@
-use Rattle.std.proofs.Common.{◌≡◌, ℕ, ◌<◌, ◌||◌}
-use Rattle.blocks.specs.Sets.{has}
-use Rattle.opened.specs.Opened.{any, in_file}
-use Rattle.store.specs.Leases.{lease_has, lease}
-use Rattle.store.proofs.store.Store.used.Given as goal
-
-abbrev pub invariant-loop-place : goal.invariant-loop-place
-invariant-loop-place g l =
-    (b : ℕ) → b < 2048 → has l.all.bits b ≡ (in_file (g.D.Disk.meaning.block l.self.disk) b || any (λ (k : ℕ). lease_has (lease l.self.leases k) b) l.place-index)
