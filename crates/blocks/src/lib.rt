@@ -48,7 +48,14 @@ impl Set {
     pub fn count(&self) -> usize
         ensures { result ≡ tally (has self.now.bits) 2048 }
     {
-        (0..BLOCKS).filter(|k| self.has(*k)).count()
+        let mut n = 0;
+        // Kept: a for, since a filter branches at each number and takes several times as long.
+        for k in 0..BLOCKS {
+            if self.has(k) {
+                n += 1;
+            }
+        }
+        n
     }
 
     // The least number that it has from `from` on.

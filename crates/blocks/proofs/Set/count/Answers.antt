@@ -1,13 +1,20 @@
-use Rattle.std.proofs.Common.{ℕ, Bool, refl, arith, rules, tests}
-use Rattle.std.proofs.lemmas.Iterator.{YieldsList-from_range}
-use Rattle.std.proofs.lemmas.Iterator.Consumers.{YieldsList-from_filter, YieldsList-at, count_from_yields_List}
+use Rattle.std.proofs.Common.{ℕ, Bool, sym, ◌∙◌, arith}
 use Rattle.blocks.specs.Sets.{has}
-use Rattle.blocks.proofs.Member.{tally-zero}
-use Rattle.blocks.proofs.Chains.{tally-filter}
+use Rattle.blocks.proofs.Member.{tally-zero, tally-yes, tally-no, tally-most}
 use Rattle.blocks.proofs.Set.count.Goals as goal
+use Rattle.blocks.proofs.Set.count.Goals.{then-has, else-has}
 
-pub returns : goal.returns
-returns c =
+pub loop-k-init : goal.loop-k-init
+loop-k-init c = sym (tally-zero _)
+
+pub overflow_add-n : goal.overflow_add-n
+overflow_add-n c = omega (arith, tally-most (has c.args.self.now.bits) c.loop-k.k)
+
+pub loop-k-preserved : goal.loop-k-preserved
+loop-k-preserved c =
     let p : ℕ → Bool = has c.args.self.now.bits in
-    let n = count_from_yields_List _ _ c.count.ensures.ran (YieldsList-from_filter _ p (YieldsList-at c.filter.ensures.source (YieldsList-from_range 0 2048 2048 refl refl)) c.filter.ensures.closure (λ x b q k. search (rules, tests))) in
-    omega (arith, n, tally-filter p 2048 0, tally-zero p)
+    let k : ℕ = c.loop-k.k in
+    elim c.if-has.branch [
+      | then-has w ↦ omega (arith, w.n-is, tally-yes p k (sym c.has.ensures ∙ w.if-has.true))
+      | else-has w ↦ omega (arith, w.n-is, tally-no p k (sym c.has.ensures ∙ w.if-has.false))
+    ]
