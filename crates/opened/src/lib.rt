@@ -37,10 +37,11 @@ fn pair<D: Disk>(disk: &D, i: usize) -> (Option<Record>, Option<Record>)
 }
 
 // Of two slots the one with the higher count holds, the first among equals.
-fn first_holds(a: Option<Record>, b: Option<Record>) -> bool
-    ensures { result ≡ first_holds a b }
+fn first_holds(a: &Option<Record>, b: &Option<Record>) -> bool
+    ensures { result ≡ first_holds a.now b.now }
 {
-    a.is_some_and(|x| b.is_none_or(|y| x.count >= y.count))
+    a.as_ref()
+        .is_some_and(|x| b.as_ref().is_none_or(|y| x.count >= y.count))
 }
 
 // The record that holds in a pair of slots.
@@ -49,7 +50,7 @@ pub fn held<D: Disk>(disk: &D, i: usize) -> Option<Record>
     ensures { result ≡ held (D.meaning.block disk.now) i }
 {
     let (a, b) = pair(disk, i);
-    if first_holds(a, b) { a } else { b }
+    if first_holds(&a, &b) { a } else { b }
 }
 
 // The slot of a pair that does not hold.
@@ -58,21 +59,25 @@ fn other_slot<D: Disk>(disk: &D, i: usize) -> usize
     ensures { result ≡ other_slot (D.meaning.block disk.now) i }
 {
     let (a, b) = pair(disk, i);
-    if first_holds(a, b) { 2 * i + 1 } else { 2 * i }
+    if first_holds(&a, &b) {
+        2 * i + 1
+    } else {
+        2 * i
+    }
 }
 
 #[tactic(auto, using(crate::proofs::Named::names))]
-fn has_name(slot: Option<Record>, name: &Name) -> bool
-    ensures { result ≡ is_of (name_of name.now) slot }
+fn has_name(slot: &Option<Record>, name: &Name) -> bool
+    ensures { result ≡ is_of (name_of name.now) slot.now }
 {
-    slot.is_some_and(|r| r.name == *name)
+    slot.as_ref().is_some_and(|r| r.name == *name)
 }
 
 // The pair of slots whose record has that name.
 pub fn find<D: Disk>(disk: &D, name: &Name) -> Option<usize>
     ensures { result ≡ place (D.meaning.block disk.now) (name_of name.now) }
 {
-    (0..NAMES).find(|i| has_name(held(disk, *i), name))
+    (0..NAMES).find(|i| has_name(&held(disk, *i), name))
 }
 
 // The record of a name.

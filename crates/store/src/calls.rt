@@ -31,7 +31,11 @@ impl<D: Disk> Store<D> {
     pub fn lease(&self, t: usize) -> Option<Lease>
         ensures { result ≡ lease self.now.leases t }
     {
-        self.leases.get(t).copied().flatten()
+        // Kept: a match, since flatten moves the lease once more.
+        match self.leases.get(t) {
+            Some(lease) => *lease,
+            None => None,
+        }
     }
 
     // A place with nothing under way.
