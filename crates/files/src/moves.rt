@@ -76,6 +76,13 @@ fn came_length(which: Which, n: u8) -> Result<Phase, Failure>
     }
 }
 
+// The phase that a step comes to: one that fails is over.
+fn settle(step: Result<Phase, Failure>) -> Phase
+    ensures { result ≡ settled step }
+{
+    step.unwrap_or_else(|failure| Phase::Over(Err(failure)))
+}
+
 impl<D: Disk> Files<D> {
     // It fails, and its place is free again.
     fn fail(&mut self, place: usize, failure: Failure) -> Result<Phase, Failure>
@@ -200,8 +207,8 @@ impl<D: Disk> Files<D> {
         }
     }
 
-    // All that a phase reads has come.
-    pub fn came(&mut self, phase: Phase, have: &Block) -> Result<Phase, Failure>
+    // What a phase comes to, or how it fails, when all that it reads has come.
+    fn step(&mut self, phase: Phase, have: &Block) -> Result<Phase, Failure>
         ensures phase { settled result ≡ (came D.meaning self.old.store phase have.now).phase }
         ensures store { self.new.store ≡ (came D.meaning self.old.store phase have.now).store }
     {
@@ -224,5 +231,13 @@ impl<D: Disk> Files<D> {
             }
             Phase::Over(outcome) => Ok(Phase::Over(outcome)),
         }
+    }
+
+    // All that a phase reads has come.
+    pub fn came(&mut self, phase: Phase, have: &Block) -> Phase
+        ensures phase { result ≡ (came D.meaning self.old.store phase have.now).phase }
+        ensures store { self.new.store ≡ (came D.meaning self.old.store phase have.now).store }
+    {
+        settle(self.step(phase, have))
     }
 }

@@ -2,7 +2,7 @@
 ghost use Rattle.std.specs.Prelude.{◌≡◌, ◌+◌, ◌-◌, ◌≤◌, ◌++◌, length, replicate};
 ghost use Rattle.model.specs.Messages.{Reads, Writes};
 ghost use Rattle.programs.specs.Actions.{action};
-ghost use Rattle.files.specs.Moves.{settled, started, started_as, filled, have_in, entered, over, turned, writes_of, piece_of, does_at, status};
+ghost use Rattle.files.specs.Moves.{started, started_as, filled, have_in, entered, over, turned, writes_of, piece_of, does_at, status};
 ghost use Rattle.files.specs.declared.transfer.Which.TheVariants.{IsPut};
 
 use crate::files::Files;
@@ -85,7 +85,7 @@ impl<D: Disk> Files<D> {
                 count,
             };
         }
-        let phase = settle(self.came(t.phase, &have));
+        let phase = self.came(t.phase, &have);
         self.enter(phase)
     }
 
@@ -109,13 +109,6 @@ impl<D: Disk> Files<D> {
             _ => read_rest(t.phase.wanted(), t.count),
         }
     }
-}
-
-// The phase that a step comes to: one that fails is over.
-fn settle(step: Result<Phase, Failure>) -> Phase
-    ensures { result ≡ settled step }
-{
-    step.unwrap_or_else(|failure| Phase::Over(Err(failure)))
 }
 
 fn started(which: Which) -> Transfer
