@@ -2,12 +2,12 @@
 use Rattle.std.specs.Prelude.{ℕ, Bool, List, [], ◌∷◌, Some, None, Option}
 use Rattle.model.specs.Messages as model
 use Rattle.model.specs.Client as side
-use Rattle.message.specs.Views.{to_server}
-use Rattle.message.specs.declared.to_server.ToServer.{ToServer}
 use Rattle.client_channel.specs.Kept.{Kept}
 use Rattle.client.specs.Kepts.{kepts_of}
 use Rattle.numbers.specs.Has.{has}
 use Rattle.client.specs.declared.value.Client.{Client}
+use Rattle.client.specs.declared.value.Pending.{Pending}
+use Rattle.client.specs.declared.value.Pending.TheVariants.{Login, Run, Credit}
 use Rattle.client.specs.declared.refusal.Refusal.{Refusal}
 use Rattle.client.specs.declared.refusal.Refusal.TheVariants.{BadNumber, TooManyHeld, NotHeld, AfterEof, TooMuch, Down}
 
@@ -30,9 +30,14 @@ pub record View : Type 0 where
   pub pending : List model.ToServer
   pub turn : Option ℕ
 
-abbrev pub pending_of : Option ToServer → List model.ToServer
+abbrev pub sent_by : Pending → model.ToServer
+sent_by (Login u p) = model.Login u p
+sent_by (Run t k) = model.For t (model.Run k)
+sent_by (Credit t n) = model.For t (model.OutputCredit n)
+
+abbrev pub pending_of : Option Pending → List model.ToServer
 pending_of None = []
-pending_of (Some m) = to_server m ∷ []
+pending_of (Some p) = sent_by p ∷ []
 
 abbrev pub view_of : Client → View
 view_of c =

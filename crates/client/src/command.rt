@@ -5,20 +5,19 @@ ghost use Rattle.client.specs.View.{pending_of};
 ghost use Rattle.client.specs.Contract.{Obeyed, Taken};
 
 use crate::refusal::{Refusal, Refused};
-use crate::value::Client;
+use crate::value::{Client, Pending};
 use client_channel::held::Held;
-use message::to_server::{Request, ToServer};
 
 // What taking so many bytes sends.
-fn credit(channel: u16, count: usize) -> Option<ToServer>
+fn credit(channel: u16, count: usize) -> Option<Pending>
     requires { count ≤ 8192 }
     ensures { pending_of result ≡ output_credit channel count }
 {
     if count == 0 {
         return None;
     }
-    let request = Request::OutputCredit(count as u32);
-    Some(ToServer::For { channel, request })
+    let count = count as u32;
+    Some(Pending::Credit { channel, count })
 }
 
 impl Client {
@@ -27,7 +26,7 @@ impl Client {
     {
         self.ready()?;
         self.connected()?;
-        self.pending = Some(ToServer::Login { user, proof });
+        self.pending = Some(Pending::Login { user, proof });
         Ok(())
     }
 
@@ -44,9 +43,9 @@ impl Client {
         self.channels.start(|memory| Held::start(memory, number));
         self.used.insert(number);
         self.next = channel + 1;
-        self.pending = Some(ToServer::For {
+        self.pending = Some(Pending::Run {
             channel: number,
-            request: Request::Run { command },
+            command,
         });
         Ok(())
     }

@@ -4,7 +4,7 @@ ghost use Rattle.client.specs.View.{pending_of};
 ghost use Rattle.client.specs.Contract.{Hands, Cut};
 
 use crate::refusal::Refused;
-use crate::value::Client;
+use crate::value::{Client, Pending};
 use message::to_server::{Request, ToServer};
 
 impl Client {
@@ -31,10 +31,18 @@ impl Client {
     pub fn next_message(&mut self) -> Option<ToServer>
         ensures { Hands self.old result self.new }
     {
-        if let Some(message) = self.pending.take() {
-            return Some(message);
+        match self.pending.take() {
+            None => self.next_of_turn(),
+            Some(Pending::Login { user, proof }) => Some(ToServer::Login { user, proof }),
+            Some(Pending::Run { channel, command }) => {
+                let request = Request::Run { command };
+                Some(ToServer::For { channel, request })
+            }
+            Some(Pending::Credit { channel, count }) => {
+                let request = Request::OutputCredit(count);
+                Some(ToServer::For { channel, request })
+            }
         }
-        self.next_of_turn()
     }
 
     // The connection is cut here.

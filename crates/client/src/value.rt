@@ -5,9 +5,16 @@ ghost use Rattle.std.specs.Option.{ForSome};
 use client_channel::buffers::Buffers;
 use client_channel::held::Held;
 use held::Table;
-use message::to_server::ToServer;
 use numbers::Numbers;
 use std::alloc::{AllocError, Global};
+
+// What a command itself sends, until it is handed out. Small, since each call of `next_message` reads it; a `ToServer` is as large as a chunk.
+#[derive(Clone, Copy)]
+pub enum Pending {
+    Login { user: u8, proof: [u8; 32] },
+    Run { channel: u16, command: u8 },
+    Credit { channel: u16, count: u32 },
+}
 
 #[derive(Drop)]
 pub struct Client {
@@ -19,8 +26,7 @@ pub struct Client {
     pub(crate) accepted: bool,
     // whether the connection holds here
     pub(crate) up: bool,
-    // what a command itself sends, until it is handed out
-    pub(crate) pending: Option<ToServer>,
+    pub(crate) pending: Option<Pending>,
     // the place of the one channel that may have something to send
     pub(crate) turn: Option<usize>,
     ghost turn_held: { ForSome turn (λ i. i < vec_len channels.held) },
