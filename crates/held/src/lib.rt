@@ -1,8 +1,8 @@
 // What a side holds at once: at most sixteen, each with memory of its own, all of it got once.
 #![tactic(auto)]
 
-ghost use Rattle.std.specs.Prelude.{◌≡◌, ◌+◌, ◌<◌, ◌≤◌, ◌↔◌, IsTrue, [], ◌∷◌, ◌++◌, length, replicate, IfOk, vec_len, vec_capacity};
-ghost use Rattle.std.specs.List.{remove};
+ghost use Rattle.std.specs.Prelude.{◌≡◌, ◌+◌, ◌<◌, ◌≤◌, ◌↔◌, IsTrue, List, [], ◌∷◌, ◌++◌, length, replicate, reverse, slice_index_or, IfOk, vec_len, vec_capacity};
+ghost use Rattle.std.specs.List.{AllZip, remove};
 
 use ring::buffers::Buffers;
 use std::alloc::{AllocError, Global};
@@ -55,28 +55,30 @@ impl<T: Drop + Into<M>, M: Memory> Table<T, M> {
         self.spare.is_empty()
     }
 
-    // One more, made in memory that was spare.
+    // One more, made in the memory that was spare last.
     pub fn start<F: FnOnce(M) -> T>(&mut self, make: F)
         requires room { length self.old.held.items < 16 }
         requires callable { F.IsAlwaysCallable make }
-        ensures { (memory : M) × (made : T) × F.post make memory made × (self.new.held.items ≡ self.old.held.items ++ made ∷ []) }
+        ensures { (memory : M) × (made : T) × F.post make memory made × (self.new.held.items ≡ self.old.held.items ++ made ∷ []) × (self.old.spare.items ≡ self.new.spare.items ++ memory ∷ []) }
     {
         let memory = self.spare.take_last();
         self.held.push_reserved(make(memory));
     }
 
-    // The one at i is not held any more, and its memory is spare.
+    // The one at i is not held any more, and what it becomes is spare, behind what was.
     pub fn forget(&mut self, i: usize)
         requires { i < length self.old.held.items }
-        ensures { self.new.held.items ≡ remove self.old.held.items i }
+        ensures held { self.new.held.items ≡ remove self.old.held.items i }
+        ensures spare { (gone : T) × (memory : M) × (gone ≡ slice_index_or self.old.held.items i gone) × T.converts gone memory × (self.new.spare.items ≡ self.old.spare.items ++ memory ∷ []) }
     {
         let gone = self.held.remove(i);
         self.spare.push_reserved(gone.into());
     }
 
-    // Nothing is held any more, and all memory is spare.
+    // Nothing is held any more, and all memory is spare: what each became, the last one first.
     pub fn clear(&mut self)
-        ensures { self.new.held.items ≡ [] }
+        ensures held { self.new.held.items ≡ [] }
+        ensures spare { (back : List M) × AllZip T.converts self.old.held.items back × (self.new.spare.items ≡ self.old.spare.items ++ reverse back) }
     {
         while let Some(gone) = self.held.pop() {
             self.spare.push_reserved(gone.into());

@@ -30,7 +30,7 @@ returns-in-Ok-None c =
     let va = c.index_mut-held.ensures.value in
     let hk : hear_of (reply_of c.args.reply) (get_or (kepts_of s.channels) c.args.i (fresh 0)) ≡ Ok None = ap (hear_of (reply_of c.args.reply)) (kept-at s.channels c.args.i r c.requires.held va) ∙ sym c.in-Ok-None.ensures.heard ∙ ap (λ z. seen_heard (Ok z) c.hear.new.buffers) c.in-Ok-None.field-0-is in
     let same : c.hear.new.buffers ≡ r.buffers = subst (λ z. UnlessStays (Ok z) (c.hear.new.buffers ≡ r.buffers)) c.in-Ok-None.field-0-is c.in-Ok-None.ensures.same in
-    let ek : kepts_of c.forget.new.self ≡ remove (kepts_of s.channels) c.args.i = kepts-forgotten c.args.i (set s.channels.held.items c.args.i (record { channel = r.channel; buffers = c.hear.new.buffers })) c.forget.new.self.held.items c.forget.ensures ∙ ap (λ ks. remove ks c.args.i) (unset s.channels c.args.i r _ c.requires.held va (ap (kept r.channel) same)) in
+    let ek : kepts_of c.forget.new.self ≡ remove (kepts_of s.channels) c.args.i = kepts-forgotten c.args.i (set s.channels.held.items c.args.i (record { channel = r.channel; buffers = c.hear.new.buffers })) c.forget.new.self.held.items c.forget.ensures.held ∙ ap (λ ks. remove ks c.args.i) (unset s.channels c.args.i r _ c.requires.held va (ap (kept r.channel) same)) in
     over-takes s c.requires.idle c.requires.up c.args.i c.requires.held c.args.reply _ hk (λ j. view (ek j) (has s.used) s.next s.accepted s.up (pending_of s.pending) s.turn)
 
 pub returns-in-Err : goal.returns-in-Err

@@ -42,7 +42,7 @@ returns-in-Close c =
     let k = get_or (kepts_of s.channels) i (fresh 0) in
     let k' = kept c.next.new.self c.next.new.buffers in
     let f = close_of k k' c.next.result (c.in-Some.is ∙ ap Some c.in-Close.is) (facts-of k k' c.next.result (c.next.ensures ∙ ap next_of (sym ki))) in
-    let ek : kepts_of c.forget.new.self ≡ remove (kepts_of s.channels) i = kepts-forgotten i (set s.channels.held.items i (record { channel = c.next.new.self; buffers = c.next.new.buffers })) c.forget.new.self.held.items c.forget.ensures ∙ ap (λ ks. remove ks i) (unset s.channels i r _ l va (f.same ∙ ki)) in
+    let ek : kepts_of c.forget.new.self ≡ remove (kepts_of s.channels) i = kepts-forgotten i (set s.channels.held.items i (record { channel = c.next.new.self; buffers = c.next.new.buffers })) c.forget.new.self.held.items c.forget.ensures.held ∙ ap (λ ks. remove ks i) (unset s.channels i r _ l va (f.same ∙ ki)) in
     hands-closed s c.requires i t l k' c.in-Some.request r.channel.number _ f c.in-Close.is (ap (λ (z : Kept). z.number) ki) (λ j. view (ek j) (has s.used) s.next s.accepted s.up (c.requires j) None)
 
 pub returns-in_default-request : goal.returns-in_default-request
