@@ -20,11 +20,14 @@ fn sixteen_and_one(rt: HostRuntime) -> Result<(), Fail> {
         assert_eq!(rt; start(&mut c, t), Ok(()));
     }
     assert_eq!(rt; start(&mut c, 16), Err(Refused::By(Refusal::TooManyHeld)));
+    assert_eq!(rt; u8::from(Refusal::TooManyHeld), 7);
     assert_eq!(rt; start(&mut c, 15), Err(Refused::By(Refusal::BadNumber)));
+    assert_eq!(rt; u8::from(Refusal::BadNumber), 5);
     assert_eq!(rt; c.receive(of(9, Reply::Runs(false))), Ok(()));
     assert_eq!(rt; next(&mut c), None);
     assert_eq!(rt; start(&mut c, 16), Ok(()));
     assert_eq!(rt; c.input(9, &[1]), Err(Refused::By(Refusal::NotHeld)));
+    assert_eq!(rt; u8::from(Refusal::NotHeld), 8);
     assert_eq!(rt; c.input(16, &[1]), Ok(()));
     Ok(())
 }
@@ -42,5 +45,6 @@ fn numbers(rt: HostRuntime) -> Result<(), Fail> {
         c.receive(of(65534, Reply::Runs(true))),
         Err(Rejected::For(Fault::NeverStarted))
     );
+    assert_eq!(rt; u8::from(Fault::NeverStarted), 4);
     Ok(())
 }

@@ -48,6 +48,7 @@ fn input_in_parts(rt: HostRuntime) -> Result<(), Fail> {
     assert_eq!(rt; next(&mut c), None);
     assert_eq!(rt; c.eof(5), Err(Refused::By(Refusal::AfterEof)));
     assert_eq!(rt; c.input(5, &[66; 1]), Err(Refused::By(Refusal::AfterEof)));
+    assert_eq!(rt; u8::from(Refusal::AfterEof), 8);
     assert_eq!(rt; c.receive(of(5, Reply::InputCredit(500))), Ok(()));
     assert_eq!(rt; next(&mut c), Some(Sent::Input(500)));
     assert_eq!(rt; next(&mut c), Some(Sent::Eof(5)));
@@ -62,6 +63,7 @@ fn most_waiting(rt: HostRuntime) -> Result<(), Fail> {
     assert_eq!(rt; c.input(5, &[65; 16384]), Ok(()));
     assert_eq!(rt; next(&mut c), None);
     assert_eq!(rt; c.input(5, &[65; 1]), Err(Refused::By(Refusal::TooMuch)));
+    assert_eq!(rt; u8::from(Refusal::TooMuch), 8);
     assert_eq!(rt; c.input(5, &[]), Ok(()));
     Ok(())
 }
@@ -104,10 +106,12 @@ fn faults(rt: HostRuntime) -> Result<(), Fail> {
         c.receive(of(5, Reply::Output(output))),
         Err(Rejected::For(Fault::BeyondWindow))
     );
+    assert_eq!(rt; u8::from(Fault::BeyondWindow), 4);
     assert!(rt; !c.is_up());
     assert_eq!(rt; c.receive(ToClient::Tock), Err(Rejected::Down));
     assert_eq!(rt; c.input(5, &[1]), Err(Refused::By(Refusal::Down)));
     assert_eq!(rt; c.login(1, [0; 32]), Err(Refused::By(Refusal::Down)));
+    assert_eq!(rt; u8::from(Refusal::Down), 8);
     let mut out = [0; 9000];
     assert_eq!(rt; c.take(5, &mut out), Ok(8192));
     assert_eq!(rt; next(&mut c), None);
@@ -121,6 +125,7 @@ fn out_of_turn(rt: HostRuntime) -> Result<(), Fail> {
         c.receive(of(5, Reply::Runs(true))),
         Err(Rejected::For(Fault::OutOfTurn))
     );
+    assert_eq!(rt; u8::from(Fault::OutOfTurn), 3);
     let mut d = running(&rt)?;
     assert_eq!(rt;
         d.receive(of(6, Reply::Exit { status: 0 })),
