@@ -4,7 +4,7 @@ use Rattle.std.proofs.lemmas.Bool.{le-leb}
 use Rattle.model.specs.Keyed.{numbers, is_in, above, gather, each}
 use Rattle.model.specs.Client.{new_client}
 use Rattle.client_channel.specs.Kept.{Kept}
-use Rattle.client.specs.Stand.{none, QuietBut, StandsFor, owed_by}
+use Rattle.client.specs.Stand.{none, QuietBut, StandsFor, owed_by, busy}
 use Rattle.client.proofs.Moves.{view, never}
 
 module _ (us : ℕ → Bool) (h : (n : ℕ) → us n ≡ false) where
@@ -18,3 +18,6 @@ module _ (us : ℕ → Bool) (h : (n : ℕ) → us n ≡ false) where
   pub begins-owes : (ks : List Kept) → ks ≡ [] → owed_by (view ks us 0 false true [] None) ≡ []
   unfolding owed_by gather
   begins-owes ks e = ap (λ z. owed_by (view z us 0 false true [] None)) e
+
+pub begins-idle : (ks : List Kept) (us : ℕ → Bool) → ks ≡ [] → busy (view ks us 0 false true [] None) ≡ false
+begins-idle ks us e = ap (λ z. busy (view z us 0 false true [] None)) e

@@ -20,12 +20,16 @@ use Rattle.client.proofs.Refusals.{enter-at, finish-at, take_at, login-is, start
 pub renamed : (k : ℕ → Command) (t u : ℕ) (c d : Client) → t ≡ u → Obeys (k t) c d → Obeys (k u) c d
 renamed k t u c d e h = subst (λ n. Obeys (k n) c d) e h
 
--- a command that is not refused, by what the value is then
+-- a command that is not refused
+pub obeyed-by : (r : Rules) (k : Command) (w : side.Client) (P : Did side.Client ToServer → Type 0) → refusal r k w ≡ None → P (flush r (command k w)) → P (obey r k w)
+obeyed-by r k w P e h = subst (λ z. P (obey_unless r k w z)) (sym e) h
+
+-- the same, by what the value is then
 obeys-by : (k : Command) (c d : Client) (v' : View) → is_busy c ≡ false → view_of d ≡ v' → ((a : Accepts) (m : May) (w : side.Client) → Stands c w → refusal (real a m) k w ≡ None) → ((a : Accepts) (m : May) (w : side.Client) → Stands c w → After v' (flush (real a m) (command k w))) → Obeys k c d
 obeys-by k c d v' b e ok h = record { idle = b; allowed = ok; stands = λ a m w s. (all a m w s).0; sends = λ a m w s. (all a m w s).1 }
   where
     all : (a : Accepts) (m : May) (w : side.Client) → Stands c w → After (view_of d) (obey (real a m) k w)
-    all a m w s = subst (λ z. After z (obey (real a m) k w)) (sym e) (subst (λ z. After v' (obey_unless (real a m) k w z)) (sym (ok a m w s)) (h a m w s))
+    all a m w s = subst (λ z. After z (obey (real a m) k w)) (sym e) (obeyed-by (real a m) k w (After v') (ok a m w s) (h a m w s))
 
 abbrev pub entered_k : List ℕ → Kept → Kept
 entered_k bs k = record k { waiting = k.waiting ++ bs }

@@ -10,7 +10,8 @@ use Rattle.message.specs.declared.to_server.Request.{Request}
 use Rattle.message.specs.declared.to_server.Request.TheVariants.{Run, Input, OutputCredit, Eof, Close}
 use Rattle.message.specs.declared.to_server.ToServer.{ToServer}
 use Rattle.message.specs.declared.to_server.ToServer.TheVariants.{For}
-use Rattle.client_channel.specs.Kept.{Kept, fresh}
+use Rattle.client_channel.specs.Kept.{Bytes, Kept, kept, fresh}
+use Rattle.client_channel.specs.declared.state.Channel.{Channel}
 use Rattle.client_channel.specs.Steps.{Step, step_to, next_of}
 use Rattle.client.specs.declared.value.Client.{Client}
 use Rattle.client.specs.View.{View, view_of}
@@ -43,6 +44,10 @@ sent-of k k' q r e n f = go r n (subst (λ z. NextFacts k k' (option_map request
     go (OutputCredit m) n h = absurd h
     go Eof n h = h
     go Close n h = absurd (n refl)
+
+-- the bytes, where the channel is as it was
+pub bytes_same : (x y : Channel) (b a : Bytes) → kept x b ≡ kept y a → b ≡ a
+bytes_same x y b a e = λ j. record { input = (e j).waiting; output = (e j).unseen }
 
 module _ (c : Client) where
   abbrev v : View

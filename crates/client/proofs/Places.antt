@@ -1,5 +1,5 @@
 -- Where a channel is held, and what is held when one is changed there.
-use Rattle.std.proofs.Common.{◌≡◌, ℕ, ◌<◌, Bool, false, eqb, suc, List, [], ◌∷◌, ◌++◌, map, length, take, drop, get_or, set, Some, None, Option, Result, MatchResult, vec_len, sym, refl, ap, ◌∙◌, subst, ⊎_elim, arith}
+use Rattle.std.proofs.Common.{◌≡◌, ℕ, ◌<◌, ◌≤◌, Bool, false, eqb, suc, List, [], ◌∷◌, ◌++◌, map, length, take, drop, get_or, set, Some, None, Option, Result, MatchResult, vec_len, sym, refl, ap, ◌∙◌, subst, ⊎_elim, arith}
 use Rattle.std.specs.List.{position, position_or_len, remove}
 use Rattle.std.specs.Option.{ok_or}
 use Rattle.std.proofs.lemmas.List.{length-map, map-append, take-map, drop-map, get_or-map, map-set, set-get_or}
@@ -36,6 +36,9 @@ kepts-started t u h n k e = ap (map kept_of) e ∙ map-append kept_of t.held.ite
 module _ (t : Table Held Bytes) where
   pub length-kepts : length (kepts_of t) ≡ vec_len t.held
   length-kepts = length-map t.held.items kept_of ∙ sym t.held.ok.0
+
+  pub length_most : length (kepts_of t) ≤ 16
+  length_most = let e = length-kepts in let r = t.room.2 in omega arith
 
   among : (i : ℕ) → i < length (kepts_of t) → i < length t.held.items
   among i l = let e = length-map t.held.items kept_of in omega arith
