@@ -1,11 +1,12 @@
 -- What is written is known, and is read back.
-use Rattle.std.specs.Prelude.{◌≡◌, ℕ, ◌+◌, ◌*◌, ◌/◌, ◌%◌, ◌^◌, ◌<◌, ◌≤◌, Bool, true, false, cond, List, ◌∷◌, length, nat_lt, refl}
+use Rattle.std.specs.Prelude.{◌≡◌, ℕ, ◌+◌, ◌*◌, ◌/◌, ◌%◌, ◌^◌, ◌<◌, ◌≤◌, Bool, true, false, cond, List, ◌∷◌, length, drop, ◌≢◌, nat_lt, slice_index, slice_index_or, refl}
 use Rattle.std.proofs.Common.{sym, ◌∙◌, ap, arith, rules}
 use Rattle.std.proofs.lemmas.Bool.Decides.{nat_tests}
 use Rattle.model.specs.Messages.{Request, Run, Input, OutputCredit, Eof, Close, Reply, Runs, Output, InputCredit, Exit, ToServer, Login, Tick, For, ToClient, Accepted, Tock, Of}
+use Rattle.wire.specs.Codes.{Code}
 use Rattle.wire.specs.Kinds.{IsNoKind}
 use Rattle.wire.specs.declared.kind.Kind.TheVariants as kind
-use Rattle.wire.specs.Inside.{known_client, known_server, to_server_bytes, to_client_bytes, to_server_by, to_client_by, request_by, request_kind, request_rest, reply_by, reply_kind, reply_rest, GoodRequest, GoodReply, GoodToServer, GoodToClient, known_to_server, known_to_client, known_request, known_reply, ToServerBack, ToClientBack, ToServerApart, ToClientApart, bytes32, number32, IsPart, known_part, IsCredit, known_credit}
+use Rattle.wire.specs.Inside.{known_client, known_server, to_server_bytes, to_client_bytes, to_server_by, to_client_by, request_by, request_kind, request_rest, reply_by, reply_kind, reply_rest, GoodRequest, GoodReply, GoodToServer, GoodToClient, known_to_server, known_to_client, known_request, known_reply, ToServerBack, ToClientBack, ToServerApart, ToClientApart, bytes32, inside, known_by, number32, IsPart, known_part, IsCredit, known_credit}
 
 channel-back : (t : ℕ) → t < 65536 → t / 256 % 256 * 256 + t % 256 ≡ t
 channel-back t h = omega arith
@@ -90,6 +91,48 @@ to-server-apart m n gm gn e = sym (to-server-back m gm).0 ∙ ap to_server_by e 
 
 pub to-client-apart : ToClientApart
 to-client-apart m n gm gn e = sym (to-client-back m gm).0 ∙ ap to_client_by e ∙ (to-client-back n gn).0
+
+-- bytes that are not known are no message, whatever the code
+pub never : {M : Type 0} (code : Code M) → ((m : code.Said) → code.sendable m → code.known (code.written m) ≡ true) → (bs : List ℕ)
+    → code.known bs ≡ false
+    → (m : code.Said)
+    → code.sendable m
+    → code.written m ≢ bs
+never code law bs k m g e =
+    let z : true ≡ false = sym (law m g) ∙ ap code.known e ∙ k in
+    let y : ◌≡◌ {A = ℕ} 0 1 = cc in omega arith
+
+-- the same of each way
+pub never-to-server : (bs : List ℕ) → known_to_server bs ≡ false → (m : ToServer) → GoodToServer m → to_server_bytes m ≢ bs
+never-to-server bs k m g e =
+    let z : true ≡ false = sym (to-server-back m g).1 ∙ ap known_to_server e ∙ k in
+    let y : ◌≡◌ {A = ℕ} 0 1 = cc in omega arith
+
+pub never-to-client : (bs : List ℕ) → known_to_client bs ≡ false → (m : ToClient) → GoodToClient m → to_client_bytes m ≢ bs
+never-to-client bs k m g e =
+    let z : true ≡ false = sym (to-client-back m g).1 ∙ ap known_to_client e ∙ k in
+    let y : ◌≡◌ {A = ℕ} 0 1 = cc in omega arith
+
+either : (b x : Bool) → x ≡ false → cond b false x ≡ false
+either true x e = refl
+either false x e = e
+
+-- bytes by their head and rest
+pub unknown : (known : ℕ → ℕ → List ℕ → Bool) (bs rest : List ℕ) (k t : ℕ) → t < 65536 → bs ≡ inside k t (drop 3 bs) → rest ≡ drop 3 bs
+    → known k t rest ≡ false
+    → known_by known bs ≡ false
+unknown known bs rest k t h e er f =
+    let e0 : slice_index_or bs 0 0 ≡ k = ap (λ (v : List ℕ). slice_index v 0) e in
+    let e1 : slice_index_or bs 1 0 ≡ t / 256 % 256 = ap (λ (v : List ℕ). slice_index v 1) e in
+    let e2 : slice_index_or bs 2 0 ≡ t % 256 = ap (λ (v : List ℕ). slice_index v 2) e in
+    let et : slice_index_or bs 1 0 * 256 + slice_index bs 2 ≡ t = (λ i. e1 i * 256 + e2 i) ∙ channel-back t h in
+    either (nat_lt (length bs) 3) (known (slice_index bs 0) (slice_index bs 1 * 256 + slice_index bs 2) (drop 3 bs))
+    (ap (λ (v : ℕ). known v (slice_index bs 1 * 256 + slice_index bs 2) (drop 3 bs)) e0 ∙ ap (λ (v : ℕ). known k v (drop 3 bs)) et
+    ∙ ap (known k t) (sym er)
+    ∙ f)
+
+pub whole : (bs rest ws : List ℕ) (k t : ℕ) → bs ≡ inside k t (drop 3 bs) → rest ≡ drop 3 bs → ws ≡ inside k t rest → ws ≡ bs
+whole bs rest ws k t e er ew = ew ∙ ap (inside k t) er ∙ sym e
 
 -- the longest is input or output of 1,024 bytes
 pub to-server-short : (m : ToServer) → GoodToServer m → length (to_server_bytes m) ≤ 1027

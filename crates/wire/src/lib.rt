@@ -6,6 +6,7 @@ pub mod fault;
 mod field;
 mod fields;
 pub mod head;
+mod headed;
 pub mod kind;
 pub mod theorems;
 mod to_client;
