@@ -2,7 +2,7 @@
 use Rattle.std.proofs.Common.{◌≡◌, ℕ, ◌+◌, ◌-◌, ◌≤◌, List, ◌∷◌, ◌++◌, length, get_or, take, drop, Some, sym, ap, ◌∙◌, subst, arith}
 use Rattle.std.proofs.lemmas.Grind.{common_steps}
 use Rattle.std.proofs.lemmas.List.FromFn.{length-map-range_with_len}
-use Rattle.std.proofs.lemmas.List.{append_assoc, drop-append-le, drop_at, drop-drop, length-drop, length-take-le, take-append-drop, take_at}
+use Rattle.std.proofs.lemmas.List.{append_assoc, drop-append-le, drop_at, drop-drop, length-append, length-drop, length-take-le, take-append-drop, take_at}
 use lib.Bits.{bit_xor}
 use Rattle.chacha20.specs.Cipher.{ChaCha20, Stream}
 use Rattle.hmac.specs.Hmac.{HMAC}
@@ -19,7 +19,7 @@ length-turned s n text =
     length-map-range_with_len (λ i. bit_xor (get_or text i 0) (Stream (way_key s) 0 (0 ∷ 0 ∷ 0 ∷ 0 ∷ Bytes64 n) i)) 0 (length text)
 
 -- the first 16 bytes of a tag
-tag_is : (s : Secret) (n : ℕ) (b c t out : List ℕ) → b ≡ c → out ≡ HMAC s.key (tag_text s n b) → t ≡ take 16 out → t ≡ tag s n c
+pub tag_is : (s : Secret) (n : ℕ) (b c t out : List ℕ) → b ≡ c → out ≡ HMAC s.key (tag_text s n b) → t ≡ take 16 out → t ≡ tag s n c
 unfolding tag
 tag_is s n b c t out eb eo et = et ∙ ap (take 16) (eo ∙ ap (λ (v : List ℕ). HMAC s.key (tag_text s n v)) eb)
 
@@ -80,6 +80,12 @@ pub opened-at : (s : Secret) (n number m k : ℕ) (old new c : List ℕ) → num
     → new ≡ take 2 old ++ (opened s n old ++ drop (2 + m) old)
 opened-at s n number m k old new c e em ek ec en = grind (arith, common_steps)
 
+-- a part that is written and then not changed
+pub unchanged : (k : ℕ) (old part : List ℕ) → part ≡ take k (drop 2 old) → take 2 old ++ (part ++ drop k (drop 2 old)) ≡ old
+unchanged k old part e =
+    ap (λ (v : List ℕ). take 2 old ++ (v ++ drop k (drop 2 old))) e ∙ ap (λ (v : List ℕ). take 2 old ++ v) (take-append-drop k (drop 2 old))
+    ∙ take-append-drop 2 old
+
 -- an inside written behind the first two bytes
 module _ (k size : ℕ) (old mid part written : List ℕ) (lo : 18 ≤ length old) (lk : size ≤ length (take k (drop 2 old))) (es : size ≡ length written)
     (ep : part ≡ written ++ drop size (take k (drop 2 old))) (em : mid ≡ take 2 old ++ (part ++ drop k (drop 2 old))) where
@@ -112,3 +118,16 @@ size-within size part new written es e el = grind (arith, common_steps)
 
 pub length_part : (old : List ℕ) → 18 ≤ length old → length (take (length old - 16 - 2) (drop 2 old)) ≡ length old - 18
 length_part old l = grind (arith, common_steps)
+
+pub length-mid : (k : ℕ) (old part : List ℕ) → 2 ≤ length old → length part ≡ length (take k (drop 2 old))
+    → length (take 2 old ++ (part ++ drop k (drop 2 old))) ≡ length old
+length-mid k old part l e =
+    length-append (take 2 old) (part ++ drop k (drop 2 old))
+    ∙ omega (
+      arith,
+      length-take-le 2 old l,
+      length-append part (drop k (drop 2 old)),
+      length-append (take k (drop 2 old)) (drop k (drop 2 old)),
+      ap length (take-append-drop k (drop 2 old)),
+      length-drop 2 old,
+    )
