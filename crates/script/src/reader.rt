@@ -12,7 +12,7 @@ ghost use Rattle.script.specs.Answers.{Numbered, orders, Script};
 use command::keyword::Keyword;
 use command::kinds::Command;
 use command::said::said;
-use std::alloc::{AllocError, Global};
+use std::alloc::{AllocError, AllocFailed, Global};
 use token::fault::Fault;
 use token::words::words;
 
@@ -27,6 +27,14 @@ impl From<AllocError> for Unreadable {
     ghost from_gives = { λ _ r. r ≡ Unreadable.NoMemory };
 
     fn from(_e: AllocError) -> Unreadable {
+        Unreadable::NoMemory
+    }
+}
+
+impl<T: Drop> From<AllocFailed<T>> for Unreadable {
+    ghost from_gives = { λ _ r. r ≡ Unreadable.NoMemory };
+
+    fn from(_e: AllocFailed<T>) -> Unreadable {
         Unreadable::NoMemory
     }
 }

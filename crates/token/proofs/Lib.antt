@@ -7,4 +7,3 @@ pub mod Scan
 pub mod Sound
 pub mod Unquote
 pub mod Whole
-pub mod Hex
