@@ -4,7 +4,6 @@
 ghost use Rattle.std.specs.Prelude.{◌≡◌, ℕ, ◌+◌, ◌*◌, ◌<◌};
 ghost use Rattle.blocks.specs.Sets.{has};
 ghost use Rattle.record.specs.Names.{name_of};
-ghost use Rattle.record.specs.Records.{decode};
 ghost use Rattle.opened.specs.Opened.{held, other_slot, first_holds, is_of, place, vacant, or_else, target, in_file, record_of};
 
 use blocks::Set;
@@ -25,17 +24,6 @@ pub struct Target {
     pub count: u64,
 }
 
-// The records in a pair of slots.
-fn pair<D: Disk>(disk: &D, i: usize) -> (Option<Record>, Option<Record>)
-    requires { i < 64 }
-    ensures first { result.0 ≡ decode (D.meaning.block disk.now (2 * i)) }
-    ensures second { result.1 ≡ decode (D.meaning.block disk.now (2 * i + 1)) }
-{
-    let a = Record::decode(&disk.read(2 * i));
-    let b = Record::decode(&disk.read(2 * i + 1));
-    (a, b)
-}
-
 // Of two slots the one with the higher count holds, the first among equals.
 fn first_holds(a: &Option<Record>, b: &Option<Record>) -> bool
     ensures { result ≡ first_holds a.now b.now }
@@ -44,12 +32,14 @@ fn first_holds(a: &Option<Record>, b: &Option<Record>) -> bool
         .is_some_and(|x| b.as_ref().is_none_or(|y| x.count >= y.count))
 }
 
+// Kept: two records apart, since a pair of them is moved as a whole.
 // The record that holds in a pair of slots.
 pub fn held<D: Disk>(disk: &D, i: usize) -> Option<Record>
     requires { i < 64 }
     ensures { result ≡ held (D.meaning.block disk.now) i }
 {
-    let (a, b) = pair(disk, i);
+    let a = Record::decode(&disk.read(2 * i));
+    let b = Record::decode(&disk.read(2 * i + 1));
     if first_holds(&a, &b) { a } else { b }
 }
 
@@ -58,7 +48,8 @@ fn other_slot<D: Disk>(disk: &D, i: usize) -> usize
     requires { i < 64 }
     ensures { result ≡ other_slot (D.meaning.block disk.now) i }
 {
-    let (a, b) = pair(disk, i);
+    let a = Record::decode(&disk.read(2 * i));
+    let b = Record::decode(&disk.read(2 * i + 1));
     if first_holds(&a, &b) {
         2 * i + 1
     } else {
