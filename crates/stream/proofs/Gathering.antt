@@ -1,6 +1,7 @@
 -- A message gathered in two parts: its length, then the rest.
-use Rattle.std.proofs.Common.{◌≡◌, ℕ, ◌+◌, ◌-◌, ◌<◌, ◌≤◌, min, List, ◌++◌, length, take, drop, Some, Ok, sym, refl, ap, ◌∙◌, arith, take-add}
+use Rattle.std.proofs.Common.{◌≡◌, ℕ, ◌+◌, ◌-◌, ◌<◌, ◌≤◌, min, ◌⊎◌, List, ◌++◌, length, take, drop, Some, Ok, sym, refl, ap, ◌∙◌, inl, inr, arith, take-add}
 use Rattle.std.proofs.lemmas.List.{append_assoc, length-append, length-take-le}
+use Rattle.std.proofs.lemmas.Bool.{cases_lt}
 use Rattle.std.proofs.lemmas.Grind.{common_steps}
 use Rattle.seal.specs.Frames.{largest, size_at}
 use Rattle.stream.specs.Readers.{Gathers, Short}
@@ -17,6 +18,16 @@ few x l = record { fits = λ m. absurd (omega arith) }
 -- a part is taken
 length_part : (h h1 piece : List ℕ) (n : ℕ) → n ≤ length piece → h1 ≡ h ++ take n piece → length h1 ≡ length h + n
 length_part h h1 piece n l e = ap length e ∙ length-append h (take n piece) ∙ ap (λ (v : ℕ). length h + v) (length-take-le n piece l)
+
+-- the first two bytes of what has come tell its length
+pub low : (h h1 rest : List ℕ) → Short h → h1 ≡ h ++ rest → largest < size_at h1 → length h < 2
+low h h1 rest sh e lg = by (cases_lt (length h) 2)
+  where
+    by : (length h < 2) ⊎ (2 ≤ length h) → length h < 2
+    by (inl l) = l
+    by (inr l) =
+        let f0 : size_at h ≤ largest = (sh.fits l).0 in
+        let ez : size_at h1 ≡ size_at h = ap size_at e ∙ size-append h rest l in absurd (omega arith)
 
 -- both parts
 module _ (h h1 h2 piece rest : List ℕ) (n m size : ℕ) (en : n ≡ min (2 - length h) (length piece)) (e1 : h1 ≡ h ++ take n piece)

@@ -4,7 +4,7 @@ use Rattle.std.specs.Result.{result_err}
 use Rattle.std.proofs.lemmas.List.{drop_at, length-drop, length-take-le, take-append-drop, take_at}
 use Rattle.wire.specs.declared.fault.Fault as fault
 use Rattle.wire.specs.declared.fault.Fault.TheVariants.{Length, Tag, Malformed}
-use Rattle.wire.specs.Codes.{Code, IsSendable, inside_of, is_known}
+use Rattle.wire.specs.Codes.{Code, IsSendable, inside_of}
 use Rattle.seal.specs.declared.secret.Secret.{Secret}
 use Rattle.seal.specs.Frames.{Whole, opened, text_of}
 use Rattle.seal.specs.Ways.{Opens, Stands}
@@ -27,9 +27,9 @@ inside-opened s n size h h1 e e1 =
     ∙ take_at (opened s n h) (drop (2 + size) h) size lo
 
 module _ {M : Type 0} (code : Code M) where
-  pub takes-is : ((m : code.Said) → code.sendable m → is_known code (code.written m) ≡ true) → (w v : Way) (h h1 h2 x : List ℕ) (size : ℕ) (r : Result M fault.Fault) → Opens w h (Ok size) v h1
+  pub takes-is : ((m : code.Said) → code.sendable m → code.known (code.written m) ≡ true) → (w v : Way) (h h1 h2 x : List ℕ) (size : ℕ) (r : Result M fault.Fault) → Opens w h (Ok size) v h1
       → x ≡ take size (drop 2 h1)
-      → MatchResult r (λ m. IsSendable code m × (inside_of code m ≡ x)) (λ f. (f ≡ Malformed) × (is_known code x ≡ false))
+      → MatchResult r (λ m. IsSendable code m × (inside_of code m ≡ x)) (λ f. (f ≡ Malformed) × (code.known x ≡ false))
       → h2 ≡ []
       → Takes code w h r v h2
   takes-is law w v h h1 h2 x size (Ok m) o ex c e2 = (
@@ -37,7 +37,7 @@ module _ {M : Type 0} (code : Code M) where
     λ s n st.
         let p = o.2 s n st in
         let ei : x ≡ opened s n h = ex ∙ inside-opened s n size h h1 o.1 p.1 in
-        (p.0, c.1 ∙ ei, ap (is_known code) (sym (c.1 ∙ ei)) ∙ law (code.said m) c.0, p.2),
+        (p.0, c.1 ∙ ei, ap code.known (sym (c.1 ∙ ei)) ∙ law (code.said m) c.0, p.2),
   )
   takes-is law w v h h1 h2 x size (Err Length) o ex c e2 =
       let q : Length ≡ Malformed = c.0 in absurd cc
@@ -45,7 +45,7 @@ module _ {M : Type 0} (code : Code M) where
       let q : Tag ≡ Malformed = c.0 in absurd cc
   takes-is law w v h h1 h2 x size (Err Malformed) o ex c e2 = λ s n st.
       let p = o.2 s n st in
-      let ei : x ≡ opened s n h = ex ∙ inside-opened s n size h h1 o.1 p.1 in (p.0, ap (is_known code) (sym ei) ∙ c.1)
+      let ei : x ≡ opened s n h = ex ∙ inside-opened s n size h h1 o.1 p.1 in (p.0, ap code.known (sym ei) ∙ c.1)
 
 module _ (s : Secret) (known : List ℕ → Bool) (g : Got) where
   reached : (bytes : List ℕ) (v : Receiver) (x : Got) → feed s known g bytes ≡ x → Is v s x → Reached s known g bytes v x.taken x.fault
@@ -101,29 +101,29 @@ module _ (s : Secret) (known : List ℕ → Bool) (g : Got) where
 module _ {M : Type 0} (code : Code M) where
   module _ (s : Secret) (g : Got) where
     whole-fault : (w v : Way) (h h1 k : List ℕ) (f : fault.Fault) → Stands w s g.number → Whole h1 → Takes code w h1 (Err f) v k
-        → whole s (is_known code) (got g.number h g.taken None) h1 ≡ got g.number [] g.taken (Some f)
+        → whole s code.known (got g.number h g.taken None) h1 ≡ got g.number [] g.taken (Some f)
     whole-fault w v h h1 k Length st wh t = absurd (t wh)
-    whole-fault w v h h1 k Tag st wh t = whole-wrong s (is_known code) g.number h g.taken h1 (t s g.number st)
-    whole-fault w v h h1 k Malformed st wh t = let q = t s g.number st in whole-malformed s (is_known code) g.number h g.taken h1 q.0 q.1
+    whole-fault w v h h1 k Tag st wh t = whole-wrong s code.known g.number h g.taken h1 (t s g.number st)
+    whole-fault w v h h1 k Malformed st wh t = let q = t s g.number st in whole-malformed s code.known g.number h g.taken h1 q.0 q.1
 
     -- the bytes at which the stream ends
     ends : (w v : Way) (h h1 k : List ℕ) (f : fault.Fault) → Stands w s g.number → Ends code w h1 f v k
-        → arrived s (is_known code) (got g.number h g.taken None) h1 ≡ got g.number [] g.taken (Some f)
-    ends w v h h1 k f st (inl c) = at_long s (is_known code) g.number h g.taken h1 c.0 c.1 ∙ ap (λ (x : fault.Fault). got g.number [] g.taken (Some x)) (sym c.2)
-    ends w v h h1 k f st (inr c) = at-whole s (is_known code) g.number h g.taken h1 c.0 ∙ whole-fault w v h h1 k f st c.0 c.1
+        → arrived s code.known (got g.number h g.taken None) h1 ≡ got g.number [] g.taken (Some f)
+    ends w v h h1 k f st (inl c) = at_long s code.known g.number h g.taken h1 c.0 c.1 ∙ ap (λ (x : fault.Fault). got g.number [] g.taken (Some x)) (sym c.2)
+    ends w v h h1 k f st (inr c) = at-whole s code.known g.number h g.taken h1 c.0 ∙ whole-fault w v h h1 k f st c.0 c.1
 
     fault-reached : (r v : Receiver) (w : Way) (k piece : List ℕ) (used : ℕ) (f : fault.Fault) → Is r s g → r.fault ≡ None → 0 < used → used ≤ length piece
         → Short (held_of r.reader ++ take (used - 1) piece)
         → Ends code r.way (held_of r.reader ++ take used piece) f w k
         → v.fault ≡ Some f
-        → Reached s (is_known code) g piece v g.taken (Some f)
+        → Reached s code.known g piece v g.taken (Some f)
     fault-reached r v w k piece used f i rf l0 l1 sh en vf =
         let e : g.fault ≡ None = sym i.fault ∙ rf in
         let u = i.up e in
         let sh' : Short (g.held ++ take (used - 1) piece) = subst (λ (x : List ℕ). Short (x ++ take (used - 1) piece)) u.held sh in
         let h1 : List ℕ = held_of r.reader ++ take used piece in
-        ended s (is_known code) g v piece used f
-        (up_to s (is_known code) g h1 piece used e l0 l1 (ap (λ (x : List ℕ). x ++ take used piece) u.held) sh'
+        ended s code.known g v piece used f
+        (up_to s code.known g h1 piece used e l0 l1 (ap (λ (x : List ℕ). x ++ take used piece) u.held) sh'
         ∙ ends r.way w (g.held ++ take (used - 1) piece) h1 k f u.way en)
         vf
 
@@ -132,7 +132,7 @@ module _ {M : Type 0} (code : Code M) where
         → Whole (held_of r.reader ++ take used piece)
         → Takes code r.way (held_of r.reader ++ take used piece) (Ok m) v.way (held_of v.reader)
         → v.fault ≡ None
-        → Reached s (is_known code) g (take used piece) v (g.taken ++ inside_of code m ∷ []) None
+        → Reached s code.known g (take used piece) v (g.taken ++ inside_of code m ∷ []) None
     message-reached r v piece used m i rf l0 l1 sh wh t vf =
         let e : g.fault ≡ None = sym i.fault ∙ rf in
         let u = i.up e in
@@ -140,15 +140,15 @@ module _ {M : Type 0} (code : Code M) where
         let h0 : List ℕ = g.held ++ take (used - 1) piece in
         let h1 : List ℕ = held_of r.reader ++ take used piece in
         let q = t.1 s g.number u.way in
-        reached s (is_known code) g (take used piece) v (got (g.number + 1) [] (g.taken ++ inside_of code m ∷ []) None)
-        (up_to s (is_known code) g h1 piece used e l0 l1 (ap (λ (x : List ℕ). x ++ take used piece) u.held) sh'
-        ∙ at-whole s (is_known code) g.number h0 g.taken h1 wh
-        ∙ whole-taken s (is_known code) g.number h0 g.taken h1 (inside_of code m) q.0 q.1 (ap (is_known code) q.1 ∙ q.2))
+        reached s code.known g (take used piece) v (got (g.number + 1) [] (g.taken ++ inside_of code m ∷ []) None)
+        (up_to s code.known g h1 piece used e l0 l1 (ap (λ (x : List ℕ). x ++ take used piece) u.held) sh'
+        ∙ at-whole s code.known g.number h0 g.taken h1 wh
+        ∙ whole-taken s code.known g.number h0 g.taken h1 (inside_of code m) q.0 q.1 (ap code.known q.1 ∙ q.2))
         (record { fault = vf; up = λ _. record { way = q.3; held = t.0 } })
 
   pub nexts-is : (r v : Receiver) (piece : List ℕ) (o : Result (Option (M × ℕ)) fault.Fault) → r.fault ≡ None → v.fault ≡ result_err o
       → Arrives code r.way (held_of r.reader) piece o v.way (held_of v.reader)
       → Nexts code r piece o v
-  nexts-is r v piece (Ok None) rf vf a = λ s g i. held-on s (is_known code) g r v piece i rf a.0 a.1 a.2 vf
+  nexts-is r v piece (Ok None) rf vf a = λ s g i. held-on s code.known g r v piece i rf a.0 a.1 a.2 vf
   nexts-is r v piece (Ok (Some (m, used))) rf vf a = (a.0, a.1, λ s g i. message-reached s g r v piece used m i rf a.0 a.1 a.2 a.3 a.4 vf)
   nexts-is r v piece (Err f) rf vf a = λ s g i. fault-reached s g r v v.way (held_of v.reader) piece a.0 f i rf a.1 a.2 a.3 a.4 vf

@@ -2,7 +2,7 @@
 use Rattle.std.specs.Prelude.{◌≡◌, ℕ, ◌+◌, ◌-◌, ◌<◌, ◌≤◌, ◌⊎◌, Bool, true, false, List, [], ◌∷◌, ◌++◌, length, take, Some, None, Ok, Err, Option, Result}
 use Rattle.wire.specs.declared.fault.Fault as fault
 use Rattle.wire.specs.declared.fault.Fault.TheVariants as faults
-use Rattle.wire.specs.Codes.{Code, inside_of, is_known}
+use Rattle.wire.specs.Codes.{Code, inside_of}
 use Rattle.seal.specs.declared.secret.Secret.{Secret}
 use Rattle.seal.specs.Frames.{Fits, Whole, largest, opened, size_at}
 use Rattle.seal.specs.Ways.{Stands, WhereStands}
@@ -29,10 +29,10 @@ pub record Reached (s : Secret) (known : List ℕ → Bool) (g : Got) (bytes : L
 module _ {M : Type 0} (code : Code M) where
   -- the whole message that is held
   abbrev pub Takes : (w : Way) (h : List ℕ) → Result M fault.Fault → (v : Way) (k : List ℕ) → Type 0
-  Takes w h (Ok m) v k = (k ≡ []) × WhereStands w (λ s n. Fits s n h × (inside_of code m ≡ opened s n h) × (is_known code (opened s n h) ≡ true) × Stands v s (n + 1))
+  Takes w h (Ok m) v k = (k ≡ []) × WhereStands w (λ s n. Fits s n h × (inside_of code m ≡ opened s n h) × (code.known (opened s n h) ≡ true) × Stands v s (n + 1))
   Takes w h (Err faults.Length) v k = Whole h → ⊥
   Takes w h (Err faults.Tag) v k = WhereStands w (λ s n. Fits s n h → ⊥)
-  Takes w h (Err faults.Malformed) v k = WhereStands w (λ s n. Fits s n h × (is_known code (opened s n h) ≡ false))
+  Takes w h (Err faults.Malformed) v k = WhereStands w (λ s n. Fits s n h × (code.known (opened s n h) ≡ false))
 
   -- bytes at which a stream ends: the message is too long, or it is whole and there is none
   abbrev pub Ends : (w : Way) (h : List ℕ) → fault.Fault → (v : Way) (k : List ℕ) → Type 0
@@ -46,6 +46,6 @@ module _ {M : Type 0} (code : Code M) where
 
   -- what comes of a piece, wherever the stream was cut before it: all of it is taken in; or its front, and a message; or all, and a fault
   abbrev pub Nexts : Receiver → (piece : List ℕ) → Result (Option (M × ℕ)) fault.Fault → Receiver → Type 0
-  Nexts r piece (Ok None) v = (s : Secret) (g : Got) → Is r s g → Reached s (is_known code) g piece v g.taken None
-  Nexts r piece (Ok (Some (m, used))) v = (0 < used) × (used ≤ length piece) × ((s : Secret) (g : Got) → Is r s g → Reached s (is_known code) g (take used piece) v (g.taken ++ inside_of code m ∷ []) None)
-  Nexts r piece (Err f) v = (s : Secret) (g : Got) → Is r s g → Reached s (is_known code) g piece v g.taken (Some f)
+  Nexts r piece (Ok None) v = (s : Secret) (g : Got) → Is r s g → Reached s code.known g piece v g.taken None
+  Nexts r piece (Ok (Some (m, used))) v = (0 < used) × (used ≤ length piece) × ((s : Secret) (g : Got) → Is r s g → Reached s code.known g (take used piece) v (g.taken ++ inside_of code m ∷ []) None)
+  Nexts r piece (Err f) v = (s : Secret) (g : Got) → Is r s g → Reached s code.known g piece v g.taken (Some f)

@@ -14,5 +14,5 @@ pub struct Receiver {
     reader: Reader,
     // why nothing more is taken
     fault: Option<Fault>,
-    ghost short: { fault ≡ None → Short (held_of reader) },
+    pub ghost short: { fault ≡ None → Short (held_of reader) },
 }

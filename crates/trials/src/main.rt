@@ -125,12 +125,14 @@ fn damaged(frame: &mut [u8]) -> Damages {
 fn in_order(first: &[u8], second: &[u8]) -> (u32, u8) {
     let mut receiver = Receiver::new(way());
     let mut seen = Seen::default();
+    let mut number = 0;
     for piece in [first, second] {
+        // Behind a fault nothing is taken, and it is told again.
         if let Err(fault) = receive(&mut receiver, piece, &mut seen) {
-            return (seen.messages, u8::from(fault));
+            number = u8::from(fault);
         }
     }
-    (seen.messages, 0)
+    (seen.messages, number)
 }
 
 fn show(rt: &impl Print, order: &str, first: &[u8], second: &[u8]) -> io::Result<()> {

@@ -1,6 +1,5 @@
 use Rattle.std.proofs.Common.{◌≡◌, Ok, Err, None, Result, rules, refl, sym, ◌∙◌, subst}
 use Rattle.std.specs.Result.{result_err}
-use Rattle.wire.specs.Codes.{is_known}
 use Rattle.stream.specs.Receivers.{Nexts}
 use Rattle.stream.proofs.Receiving.{next-again, nexts-is}
 use Rattle.stream.proofs.receiver.Receiver.next.Goals as goal
@@ -14,7 +13,7 @@ returns-in_err-unbroken g c =
     let f = c.in_err-unbroken.field-0.0 in
     let e : c.from_residual.result ≡ Err f = search rules in
     subst (λ r. Nexts g.M.Codec.code c.args.self.now c.args.piece.now r c.args.self.now) (sym e)
-    (λ s h i. next-again s (is_known g.M.Codec.code) h c.args.self.now c.args.piece.now f i (search rules))
+    (λ s h i. next-again s g.M.Codec.code.known h c.args.self.now c.args.piece.now f i (search rules))
 
 pub returns-in-Err : goal.returns-in-Err
 returns-in-Err g c =
