@@ -21,11 +21,7 @@ impl Disk for Memory {
     ghost meaning = { memory };
 
     fn read(&self, b: usize) -> Block {
-        // Kept: a match, since unwrap_or makes the zeros each time.
-        match self.blocks.get(b) {
-            Some(block) => *block,
-            None => [0; 512],
-        }
+        self.blocks.get(b).copied().unwrap_or([0; 512])
     }
 
     fn write(&mut self, b: usize, bytes: &Block) -> Result<(), Crashed> {

@@ -60,7 +60,14 @@ impl Record {
         ensures { result ≡ decode y.now }
     {
         let r = Record::guess(y);
-        (r.makes_sense() && equal(&r.encode(), y)).then_some(r)
+        // Kept: a test that returns, since then_some moves the record of a block that holds none too.
+        if !r.makes_sense() {
+            return None;
+        }
+        if !equal(&r.encode(), y) {
+            return None;
+        }
+        Some(r)
     }
 }
 
