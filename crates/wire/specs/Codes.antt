@@ -4,7 +4,7 @@ use Rattle.message.specs.Views.{to_client, to_server}
 use Rattle.message.specs.declared.to_client.ToClient.{ToClient}
 use Rattle.message.specs.declared.to_server.ToServer.{ToServer}
 use Rattle.model.specs.Messages as model
-use Rattle.wire.specs.Inside.{GoodToClient, GoodToServer, known_to_client, known_to_server, to_client_bytes, to_server_bytes}
+use Rattle.wire.specs.Inside.{GoodToClient, GoodToServer, known_by, known_client, known_server, to_client_bytes, to_server_bytes}
 
 -- Said: what messages say; sendable: whether that can be sent; written: its inside; known: whether some message is written so
 pub record Code (M : Type 0) : Type 1 where
@@ -22,10 +22,32 @@ module _ {M : Type 0} (code : Code M) where
   abbrev pub inside_of : M → List ℕ
   inside_of m = code.written (code.said m)
 
+-- messages that begin with a head. known: whether some message has this kind, channel and rest
+pub record HeadCode (M : Type 0) : Type 1 where
+  pub Said : Type 0
+  pub said : M → Said
+  pub sendable : Said → Type 0
+  pub written : Said → List ℕ
+  pub known : (kind channel : ℕ) → List ℕ → Bool
+
+-- whether some message is written so, and the same messages by their whole inside
+module _ {M : Type 0} (code : HeadCode M) where
+  abbrev pub is_known : List ℕ → Bool
+  is_known = known_by code.known
+
+  abbrev pub whole_code : Code M
+  whole_code = record { Said = code.Said; said = code.said; sendable = code.sendable; written = code.written; known = is_known }
+
+abbrev pub to_server_heads : HeadCode ToServer
+to_server_heads =
+    record { Said = model.ToServer; said = to_server; sendable = GoodToServer; written = to_server_bytes; known = known_server }
+
+abbrev pub to_client_heads : HeadCode ToClient
+to_client_heads =
+    record { Said = model.ToClient; said = to_client; sendable = GoodToClient; written = to_client_bytes; known = known_client }
+
 abbrev pub to_server_code : Code ToServer
-to_server_code =
-    record { Said = model.ToServer; said = to_server; sendable = GoodToServer; written = to_server_bytes; known = known_to_server }
+to_server_code = whole_code to_server_heads
 
 abbrev pub to_client_code : Code ToClient
-to_client_code =
-    record { Said = model.ToClient; said = to_client; sendable = GoodToClient; written = to_client_bytes; known = known_to_client }
+to_client_code = whole_code to_client_heads

@@ -1,34 +1,61 @@
 // Messages that begin with a head.
-ghost use Rattle.std.specs.Prelude.{◌≡◌, ◌≢◌, ℕ, Bool, true, false, List, MatchOption, MatchResult, OnErr};
-ghost use Rattle.wire.specs.Codes.{Code, inside_of, IsSendable};
-ghost use Rattle.wire.specs.Inside.{inside, known_by};
+ghost use Rattle.std.specs.Prelude.{◌≡◌, ◌≢◌, ℕ, ◌≤◌, true, false, List, length, MatchOption, MatchResult, OnErr};
+ghost use Rattle.wire.specs.Codes.{HeadCode, inside_of, is_known, IsSendable, whole_code};
+ghost use Rattle.wire.specs.Inside.{inside};
 ghost use Rattle.wire.specs.Kinds.{IsNoKind, kind_number};
+ghost use Rattle.wire.specs.Writes.{Wrote};
 ghost use Rattle.wire.specs.declared.fault.Fault.TheVariants.{Malformed};
 
+use crate::codec::Codec;
 use crate::fault::Fault;
 use crate::head::Head;
+use crate::unwritten::Unwritten;
 
+// Its kind tells how to read it: whoever has this has a codec.
 pub trait Headed: Sized {
-    ghost code: { Code Self };
+    ghost code: { HeadCode Self };
 
-    // whether some message has this kind, channel and rest
-    ghost known_at: { (kind channel : ℕ) → List ℕ → Bool };
+    // Writes a message to the front of a buffer.
+    fn write(&self, out: &mut [u8]) -> Result<usize, Unwritten>
+        ensures { Wrote (IsSendable (whole_code code) self.now) (inside_of (whole_code code) self.now) out.old result out.new };
 
     // The message with a head and the bytes behind it, where there is one.
     fn from_head(head: Head, rest: &[u8]) -> Option<Self>
-        ensures { MatchOption result (known_at (kind_number head.kind) head.channel rest.now ≡ false) (λ m. IsSendable code m × (inside_of code m ≡ inside (kind_number head.kind) head.channel rest.now)) };
+        ensures { MatchOption result (code.known (kind_number head.kind) head.channel rest.now ≡ false) (λ m. IsSendable (whole_code code) m × (inside_of (whole_code code) m ≡ inside (kind_number head.kind) head.channel rest.now)) };
 
-    ghost written_known: { (m : code.Said) → code.sendable m → known_by known_at (code.written m) ≡ true };
+    // a message is short enough to be sealed
+    ghost short: { (m : code.Said) → code.sendable m → length (code.written m) ≤ 1027 };
+
+    ghost written_known: { (m : code.Said) → code.sendable m → is_known code (code.written m) ≡ true };
 
     // no message has a kind that there is not
-    ghost kinds_known: { (n channel : ℕ) (rest : List ℕ) → IsNoKind n → known_at n channel rest ≡ false };
+    ghost kinds_known: { (n channel : ℕ) (rest : List ℕ) → IsNoKind n → code.known n channel rest ≡ false };
 
     // The message that bytes stand for, where there is one.
     final fn of_inside(bytes: &[u8]) -> Result<Self, Fault>
-        ensures message { MatchResult result (λ m. IsSendable code m × (inside_of code m ≡ bytes.now)) (λ f. (f ≡ Malformed) × (known_by known_at bytes.now ≡ false)) }
+        ensures message { MatchResult result (λ m. IsSendable (whole_code code) m × (inside_of (whole_code code) m ≡ bytes.now)) (λ f. (f ≡ Malformed) × (is_known code bytes.now ≡ false)) }
         ensures refused { OnErr result ((m : code.Said) → code.sendable m → code.written m ≢ bytes.now) }
     {
         let (head, rest) = Head::read(bytes)?;
         Self::from_head(head, rest).ok_or(Fault::Malformed)
+    }
+}
+
+impl<M: Headed> Codec for M {
+    ghost code = { whole_code M.Headed.code };
+
+    ghost short = { M.Headed.short };
+
+    ghost written_known = { M.Headed.written_known };
+
+    fn write(&self, out: &mut [u8]) -> Result<usize, Unwritten> {
+        Headed::write(self, out)
+    }
+
+    fn read(bytes: &[u8]) -> Result<M, Fault>
+        ensures message { MatchResult result (λ m. IsSendable (whole_code M.Headed.code) m × (inside_of (whole_code M.Headed.code) m ≡ bytes.now)) (λ f. (f ≡ Malformed) × (is_known M.Headed.code bytes.now ≡ false)) }
+        ensures refused { OnErr result ((m : M.Headed.code.Said) → M.Headed.code.sendable m → M.Headed.code.written m ≢ bytes.now) }
+    {
+        M::of_inside(bytes)
     }
 }

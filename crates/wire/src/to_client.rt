@@ -1,16 +1,12 @@
 // Messages to the client, written and read.
-ghost use Rattle.std.specs.Prelude.{◌≡◌, ◌≢◌, false, MatchOption, MatchResult, OnErr};
+ghost use Rattle.std.specs.Prelude.{◌≡◌, false, MatchOption};
 ghost use Rattle.message.specs.Views.{reply as reply_of, to_client};
-ghost use Rattle.model.specs.Messages as model;
-ghost use Rattle.wire.specs.Codes.{to_client_code};
-ghost use Rattle.wire.specs.Inside.{GoodReply, GoodToClient, inside, known_client, known_reply, known_to_client, reply_kind, reply_rest, to_client_bytes};
+ghost use Rattle.wire.specs.Codes.{to_client_heads};
+ghost use Rattle.wire.specs.Inside.{GoodReply, inside, known_reply, reply_kind, reply_rest};
 ghost use Rattle.wire.specs.Kinds.{kind_number};
 ghost use Rattle.wire.specs.Writes.{Wrote};
-ghost use Rattle.wire.specs.declared.fault.Fault.TheVariants.{Malformed};
 ghost use Rattle.wire.specs.Back.{client-kinds, to-client-back, to-client-short};
 
-use crate::codec::Codec;
-use crate::fault::Fault;
 use crate::field::Field;
 use crate::head::Head;
 use crate::headed::Headed;
@@ -45,12 +41,14 @@ fn write_reply(reply: &Reply, channel: u16, out: &mut [u8]) -> Result<usize, Unw
     }
 }
 
-impl Codec for ToClient {
-    ghost code = { to_client_code };
+impl Headed for ToClient {
+    ghost code = { to_client_heads };
 
     ghost short = { to-client-short };
 
     ghost written_known = { λ m g. (to-client-back m g).1 };
+
+    ghost kinds_known = { client-kinds };
 
     fn write(&self, out: &mut [u8]) -> Result<usize, Unwritten> {
         match self {
@@ -59,23 +57,6 @@ impl Codec for ToClient {
             ToClient::Of { channel, reply } => write_reply(reply, *channel, out),
         }
     }
-
-    fn read(bytes: &[u8]) -> Result<ToClient, Fault>
-        ensures message { MatchResult result (λ m. GoodToClient (to_client m) × (to_client_bytes (to_client m) ≡ bytes.now)) (λ f. (f ≡ Malformed) × (known_to_client bytes.now ≡ false)) }
-        ensures refused { OnErr result ((m : model.ToClient) → GoodToClient m → to_client_bytes m ≢ bytes.now) }
-    {
-        ToClient::of_inside(bytes)
-    }
-}
-
-impl Headed for ToClient {
-    ghost code = { to_client_code };
-
-    ghost known_at = { known_client };
-
-    ghost written_known = { λ m g. (to-client-back m g).1 };
-
-    ghost kinds_known = { client-kinds };
 
     fn from_head(head: Head, rest: &[u8]) -> Option<ToClient> {
         match (head.kind, head.channel) {

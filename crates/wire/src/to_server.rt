@@ -1,16 +1,12 @@
 // Messages to the server, written and read.
-ghost use Rattle.std.specs.Prelude.{◌≡◌, ◌≢◌, false, MatchOption, MatchResult, OnErr};
+ghost use Rattle.std.specs.Prelude.{◌≡◌, false, MatchOption};
 ghost use Rattle.message.specs.Views.{request as request_of, to_server};
-ghost use Rattle.model.specs.Messages as model;
-ghost use Rattle.wire.specs.Codes.{to_server_code};
-ghost use Rattle.wire.specs.Inside.{GoodRequest, GoodToServer, inside, known_request, known_server, known_to_server, request_kind, request_rest, to_server_bytes};
+ghost use Rattle.wire.specs.Codes.{to_server_heads};
+ghost use Rattle.wire.specs.Inside.{GoodRequest, inside, known_request, request_kind, request_rest};
 ghost use Rattle.wire.specs.Kinds.{kind_number};
 ghost use Rattle.wire.specs.Writes.{Wrote};
-ghost use Rattle.wire.specs.declared.fault.Fault.TheVariants.{Malformed};
 ghost use Rattle.wire.specs.Back.{server-kinds, to-server-back, to-server-short};
 
-use crate::codec::Codec;
-use crate::fault::Fault;
 use crate::field::Field;
 use crate::head::Head;
 use crate::headed::Headed;
@@ -53,12 +49,14 @@ fn write_request(request: &Request, channel: u16, out: &mut [u8]) -> Result<usiz
     }
 }
 
-impl Codec for ToServer {
-    ghost code = { to_server_code };
+impl Headed for ToServer {
+    ghost code = { to_server_heads };
 
     ghost short = { to-server-short };
 
     ghost written_known = { λ m g. (to-server-back m g).1 };
+
+    ghost kinds_known = { server-kinds };
 
     fn write(&self, out: &mut [u8]) -> Result<usize, Unwritten> {
         match self {
@@ -67,23 +65,6 @@ impl Codec for ToServer {
             ToServer::For { channel, request } => write_request(request, *channel, out),
         }
     }
-
-    fn read(bytes: &[u8]) -> Result<ToServer, Fault>
-        ensures message { MatchResult result (λ m. GoodToServer (to_server m) × (to_server_bytes (to_server m) ≡ bytes.now)) (λ f. (f ≡ Malformed) × (known_to_server bytes.now ≡ false)) }
-        ensures refused { OnErr result ((m : model.ToServer) → GoodToServer m → to_server_bytes m ≢ bytes.now) }
-    {
-        ToServer::of_inside(bytes)
-    }
-}
-
-impl Headed for ToServer {
-    ghost code = { to_server_code };
-
-    ghost known_at = { known_server };
-
-    ghost written_known = { λ m g. (to-server-back m g).1 };
-
-    ghost kinds_known = { server-kinds };
 
     fn from_head(head: Head, rest: &[u8]) -> Option<ToServer> {
         match (head.kind, head.channel) {
