@@ -1,3 +1,4 @@
 pub mod Runs
 pub mod Wraps
 pub mod Theorems
+pub mod Flags

@@ -1,12 +1,13 @@
 -- What holds of turns, of what programs ask for, and of addresses. Each is a type; a proof of it is the theorem. Assumes nothing.
-use Rattle.std.specs.Prelude.{◌≡◌, ℕ, zero, suc, ◌+◌, ◌%◌, ◌<◌, ◌≤◌, true, false, ◌⊎◌, List, length, ◌≢◌, slice_index}
+use Rattle.std.specs.Prelude.{◌≡◌, ℕ, zero, suc, ◌+◌, ◌%◌, ◌<◌, ◌≤◌, Bool, true, false, ◌&&◌, ◌⊎◌, List, length, ◌≢◌, slice_index}
 use Rattle.model.specs.Messages.{Does, Reads, Writes, Ends, GoesOn}
 use Rattle.bytecode.specs.declared.instruction.Instruction.{Instruction}
 use Rattle.vm.specs.declared.machine.Machine.{Machine}
 use Rattle.vm.specs.declared.running.Running.{Running}
 use Rattle.vm.specs.declared.table.Table.{Table}
-use Rattle.vm.specs.Turn.{stops, stepped, runs}
-use Rattle.vm.specs.Ends.{bytes_from, bytes_to}
+use Rattle.vm.specs.Step.{execute}
+use Rattle.vm.specs.Turn.{fresh, stops, stepped, runs}
+use Rattle.vm.specs.Ends.{bytes_from, bytes_to, resumed}
 use Rattle.vm.specs.Commands.{does_of}
 
 -- the machine after exactly n instructions
@@ -44,3 +45,14 @@ ReadsRound =
     (at n : ℕ) (bytes memory : List ℕ) → length memory ≡ 256 →
     ((k : ℕ) → k < n → ((j : ℕ) → k < j → j < n → (at + j) % 256 ≢ (at + k) % 256) → slice_index (bytes_to at n bytes memory) ((at + k) % 256) ≡ slice_index bytes k) ×
     ((a : ℕ) → ((j : ℕ) → j < n → (at + j) % 256 ≢ a) → slice_index (bytes_to at n bytes memory) a ≡ slice_index memory a)
+
+-- Of the two flags at most one is set: in a fresh machine, and where it was so, after an instruction, after a run, and after a turn, whatever it read.
+abbrev pub HasOneFlag : Machine → Type 0
+HasOneFlag m = (m.less && m.equal) ≡ false
+
+abbrev pub OneFlag : Type 0
+OneFlag =
+    HasOneFlag fresh ×
+    ((i : Instruction) (m : Machine) → HasOneFlag m → HasOneFlag (execute i m)) ×
+    ((n : ℕ) (c : List Instruction) (m : Machine) → HasOneFlag m → HasOneFlag (runs n c m)) ×
+    ((c : List Instruction) (bytes : List ℕ) (eof : Bool) (m : Machine) → HasOneFlag m → HasOneFlag (resumed c bytes eof m))

@@ -1,5 +1,5 @@
 // The laws of the machine: each is the promise of a function that does nothing.
-ghost use Rattle.vm.specs.Laws.{TurnIsShort, AsksWhatCanBe, WritesRound, ReadsRound};
+ghost use Rattle.vm.specs.Laws.{TurnIsShort, AsksWhatCanBe, WritesRound, ReadsRound, OneFlag};
 
 // A turn is at most 10,000 instructions, and none before its last ends it.
 pub fn turn_is_short()
@@ -19,4 +19,9 @@ pub fn writes_round()
 // What is read goes to addresses that go round, and of two bytes at one address the later stays.
 pub fn reads_round()
     ensures { ReadsRound }
+{}
+
+// Of the two flags at most one is set.
+pub fn one_flag()
+    ensures { OneFlag }
 {}
