@@ -21,7 +21,7 @@ pub fn reads_round()
     ensures { ReadsRound }
 {}
 
-// Of the two flags at most one is set.
+// From a fresh machine on, at most one of the two flags is set.
 pub fn one_flag()
     ensures { OneFlag }
 {}
