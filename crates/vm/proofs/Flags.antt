@@ -3,7 +3,7 @@ use Rattle.std.proofs.Common.{ℕ, zero, suc, Bool, true, false, cond, List, Som
 use Rattle.std.proofs.lemmas.Bool.Decides.{nat_tests}
 use Rattle.std.specs.List.{slice_get}
 use Rattle.bytecode.specs.declared.instruction.Instruction.{Instruction}
-use Rattle.bytecode.specs.declared.instruction.Instruction.TheVariants.{Const, Move, Add, Compare, Jump, JumpLess, JumpEqual, Load, Store, Read, Write, End, GoOn}
+use Rattle.bytecode.specs.declared.instruction.Instruction.TheVariants.{Compare, JumpLess, JumpEqual, Read, Write, End, GoOn}
 use Rattle.vm.specs.declared.machine.Machine.{Machine}
 use Rattle.vm.specs.Step.{get, compared, execute, jumped}
 use Rattle.vm.specs.Turn.{step_at, stops, stepped, runs}
@@ -18,19 +18,10 @@ one-jumped true to m h = h
 one-jumped false to m h = h
 
 one-execute : (i : Instruction) (m : Machine) → HasOneFlag m → HasOneFlag (execute i m)
-one-execute (Const a n) m h = h
-one-execute (Move a b) m h = h
-one-execute (Add a b c) m h = h
 one-execute (Compare a b) m h = compared-one (get a m) (get b m) m
-one-execute (Jump to) m h = h
 one-execute (JumpLess to) m h = one-jumped m.less to m h
 one-execute (JumpEqual to) m h = one-jumped m.equal to m h
-one-execute (Load a b) m h = h
-one-execute (Store a b) m h = h
-one-execute (Read a b c) m h = h
-one-execute (Write a b) m h = h
-one-execute (End a) m h = h
-one-execute GoOn m h = h
+one-execute i m h = h
 
 one-step : (o : Option Instruction) (m : Machine) → HasOneFlag m → HasOneFlag (step_at o m)
 one-step None m h = h
@@ -46,19 +37,11 @@ one-runs (suc n) c m h = go (stops c m) (one-runs n c (stepped c m) (one-step (s
     go false r = r
 
 one-complete : (i : Instruction) (bytes : List ℕ) (eof : Bool) (m : Machine) → HasOneFlag m → HasOneFlag (complete i bytes eof m)
-one-complete (Const a n) bytes eof m h = h
-one-complete (Move a b) bytes eof m h = h
-one-complete (Add a b c) bytes eof m h = h
-one-complete (Compare a b) bytes eof m h = compared-one (get a m) (get b m) m
-one-complete (Jump to) bytes eof m h = h
-one-complete (JumpLess to) bytes eof m h = one-jumped m.less to m h
-one-complete (JumpEqual to) bytes eof m h = one-jumped m.equal to m h
-one-complete (Load a b) bytes eof m h = h
-one-complete (Store a b) bytes eof m h = h
 one-complete (Read a b c) bytes eof m h = h
 one-complete (Write a b) bytes eof m h = h
 one-complete (End a) bytes eof m h = h
 one-complete GoOn bytes eof m h = h
+one-complete i bytes eof m h = one-execute i m h
 
 one-completed : (o : Option Instruction) (bytes : List ℕ) (eof : Bool) (m : Machine) → HasOneFlag m → HasOneFlag (complete_at o bytes eof m)
 one-completed None bytes eof m h = h

@@ -7,30 +7,29 @@ use Rattle.model.specs.Messages as model
 use Rattle.wire.specs.Inside.{GoodToClient, GoodToServer, known_by, known_client, known_server, to_client_bytes, to_server_bytes}
 
 -- Said: what messages say; sendable: whether that can be sent; written: its inside; known: whether some message is written so
-pub record Code (M : Type 0) : Type 1 where
+pub record CodeBy (Known : Type 0) (M : Type 0) : Type 1 where
   pub Said : Type 0
   pub said : M → Said
   pub sendable : Said → Type 0
   pub written : Said → List ℕ
-  pub known : List ℕ → Bool
+  pub known : Known
 
 -- the same of a message as the code holds it
-module _ {M : Type 0} (code : Code M) where
+module _ {Known M : Type 0} (code : CodeBy Known M) where
   abbrev pub IsSendable : M → Type 0
   IsSendable m = code.sendable (code.said m)
 
   abbrev pub inside_of : M → List ℕ
   inside_of m = code.written (code.said m)
 
--- messages that begin with a head. known: whether some message has this kind, channel and rest
-pub record HeadCode (M : Type 0) : Type 1 where
-  pub Said : Type 0
-  pub said : M → Said
-  pub sendable : Said → Type 0
-  pub written : Said → List ℕ
-  pub known : (kind channel : ℕ) → List ℕ → Bool
+-- known by the whole inside
+abbrev pub Code : Type 0 → Type 1
+Code = CodeBy (List ℕ → Bool)
 
--- whether some message is written so, and the same messages by their whole inside
+-- known by the head and the rest
+abbrev pub HeadCode : Type 0 → Type 1
+HeadCode = CodeBy ((kind channel : ℕ) → List ℕ → Bool)
+
 module _ {M : Type 0} (code : HeadCode M) where
   abbrev pub is_known : List ℕ → Bool
   is_known = known_by code.known

@@ -11,17 +11,17 @@ use crate::fault::Fault;
 use crate::head::Head;
 use crate::unwritten::Unwritten;
 
-// Its kind tells how to read it: whoever has this has a codec.
+// A head and the bytes behind it tell the message.
 pub trait Headed: Sized {
     ghost code: { HeadCode Self };
 
     // Writes a message to the front of a buffer.
     fn write(&self, out: &mut [u8]) -> Result<usize, Unwritten>
-        ensures { Wrote (IsSendable (whole_code code) self.now) (inside_of (whole_code code) self.now) out.old result out.new };
+        ensures { Wrote (IsSendable code self.now) (inside_of code self.now) out.old result out.new };
 
     // The message with a head and the bytes behind it, where there is one.
     fn from_head(head: Head, rest: &[u8]) -> Option<Self>
-        ensures { MatchOption result (code.known (kind_number head.kind) head.channel rest.now ≡ false) (λ m. IsSendable (whole_code code) m × (inside_of (whole_code code) m ≡ inside (kind_number head.kind) head.channel rest.now)) };
+        ensures { MatchOption result (code.known (kind_number head.kind) head.channel rest.now ≡ false) (λ m. IsSendable code m × (inside_of code m ≡ inside (kind_number head.kind) head.channel rest.now)) };
 
     // a message is short enough to be sealed
     ghost short: { (m : code.Said) → code.sendable m → length (code.written m) ≤ 1027 };
@@ -30,15 +30,6 @@ pub trait Headed: Sized {
 
     // no message has a kind that there is not
     ghost kinds_known: { (n channel : ℕ) (rest : List ℕ) → IsNoKind n → code.known n channel rest ≡ false };
-
-    // The message that bytes stand for, where there is one.
-    final fn of_inside(bytes: &[u8]) -> Result<Self, Fault>
-        ensures message { MatchResult result (λ m. IsSendable (whole_code code) m × (inside_of (whole_code code) m ≡ bytes.now)) (λ f. (f ≡ Malformed) × (is_known code bytes.now ≡ false)) }
-        ensures refused { OnErr result ((m : code.Said) → code.sendable m → code.written m ≢ bytes.now) }
-    {
-        let (head, rest) = Head::read(bytes)?;
-        Self::from_head(head, rest).ok_or(Fault::Malformed)
-    }
 }
 
 impl<M: Headed> Codec for M {
@@ -53,9 +44,10 @@ impl<M: Headed> Codec for M {
     }
 
     fn read(bytes: &[u8]) -> Result<M, Fault>
-        ensures message { MatchResult result (λ m. IsSendable (whole_code M.Headed.code) m × (inside_of (whole_code M.Headed.code) m ≡ bytes.now)) (λ f. (f ≡ Malformed) × (is_known M.Headed.code bytes.now ≡ false)) }
+        ensures message { MatchResult result (λ m. IsSendable M.Headed.code m × (inside_of M.Headed.code m ≡ bytes.now)) (λ f. (f ≡ Malformed) × (is_known M.Headed.code bytes.now ≡ false)) }
         ensures refused { OnErr result ((m : M.Headed.code.Said) → M.Headed.code.sendable m → M.Headed.code.written m ≢ bytes.now) }
     {
-        M::of_inside(bytes)
+        let (head, rest) = Head::read(bytes)?;
+        M::from_head(head, rest).ok_or(Fault::Malformed)
     }
 }
